@@ -1,13 +1,13 @@
-// A library with one function.
+//! The machine as definitions: its state, the instruction words and the step of RV32IM, and the bus that a step
+//! reads and writes through.
 #![tactic(auto)]
 
-ghost use Rattle.std.specs.Prelude.{◌≡◌};
-ghost use Rattle.sl_model.specs.Echo.{echo_of};
+mod bits;
+mod bus;
+mod instr;
+mod run_state;
 
-// The `ensures` clause is the contract: what `echo` returns is `echo_of` of its argument, a definition
-// in `specs/Echo.antt`, which a caller's clause can cite too.
-pub fn echo(x: usize) -> usize
-    ensures { result ≡ echo_of x }
-{
-    x
-}
+pub use bits::Bits;
+pub use bus::Bus;
+pub use instr::{BranchOp, ImmediateOp, Instr, LoadOp, MultiplyOp, Register, RegisterOp, ShiftOp, StoreOp};
+pub use run_state::{Layout, RunState};

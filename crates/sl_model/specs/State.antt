@@ -1,0 +1,72 @@
+-- The state of the machine.
+use Rattle.std.specs.Prelude.{◌≡◌, ℕ, ◌+◌, ◌*◌, ◌%◌, ◌^◌, ◌<◌, ◌≤◌, ◌==◌, ◌&&◌, ◌↔◌, List, length, slice_index, slice_set, if◌then◌else◌, IsSome, Option, nat_lt, nat_le, not, filter}
+use Rattle.std.specs.List.{AllByRecursion}
+use Rattle.std.specs.FinMap.{get, keys}
+use Rattle.sl_model.specs.declared.run_state.RunState.{RunState}
+use Rattle.sl_model.specs.declared.run_state.RunState.TheVariants.{Running, Exited}
+use Rattle.sl_model.specs.Pages.{Pages, ArePages}
+use Rattle.sl_model.specs.Words.{IsWord}
+
+pub record State : Type 0 where
+  pub pc : ℕ
+  -- x0 to x31
+  pub x : List ℕ
+  pub pages : Pages
+  -- the break, and the end of the heap's mapped pages
+  pub brk : ℕ
+  pub brk_end : ℕ
+  -- how many calls were answered from the recording
+  pub next_call : ℕ
+  pub status : RunState
+  -- how many instructions were done
+  pub count : ℕ
+  -- the bounds of the heap, which no step changes
+  pub brk_start : ℕ
+  pub heap_limit : ℕ
+
+-- the value of a register
+abbrev pub register : State → ℕ → ℕ
+register s r = slice_index s.x r
+
+-- the registers after a write: x0 stays 0
+abbrev pub set_register : List ℕ → ℕ → ℕ → List ℕ
+set_register x r value = if r == 0 then x else slice_set x r value
+
+-- an exit's code is a word
+abbrev pub IsStatus : RunState → Type 0
+IsStatus Running = Unit {0}
+IsStatus (Exited code) = IsWord code
+
+-- every number is in its range, and x0 is 0
+pub record IsState (s : State) : Type 0 where
+  pub pc : IsWord s.pc
+  pub registers : length s.x ≡ 32
+  pub words : AllByRecursion IsWord s.x
+  pub zero : register s 0 ≡ 0
+  pub pages : ArePages s.pages
+  pub brk : IsWord s.brk
+  pub brk_end : IsWord s.brk_end
+  pub next_call : IsWord s.next_call
+  pub status : IsStatus s.status
+  pub count : s.count < 2 ^ 64
+  pub brk_start : IsWord s.brk_start
+  pub heap_limit : IsWord s.heap_limit
+
+-- the end of a program's memory
+abbrev pub MEMORY_END : ℕ
+MEMORY_END = 0xBFFFF000
+
+-- Memory and heap are laid out as a program's: all pages are below the end of memory, those of the heap are mapped
+-- exactly below its mapped end, and at most 12,288 pages lie outside of it.
+pub record Fits (s : State) : Type 0 where
+  pub start : s.brk_start % 4096 ≡ 0
+  pub limit : s.heap_limit % 4096 ≡ 0
+  pub ordered : s.brk_start ≤ s.heap_limit
+  pub below_end : s.heap_limit ≤ MEMORY_END
+  pub size : s.heap_limit ≤ s.brk_start + 2 ^ 24
+  pub mapped_end : s.brk_end % 4096 ≡ 0
+  pub end_from : s.brk_start ≤ s.brk_end
+  pub end_to : s.brk_end ≤ s.heap_limit
+  pub pages_below : (page : ℕ) → IsSome (get s.pages page) → page * 4096 < MEMORY_END
+  pub heap : (page : ℕ) → s.brk_start ≤ page * 4096 → page * 4096 < s.heap_limit → IsSome (get s.pages page) ↔ (page * 4096 < s.brk_end)
+  pub few : length (filter (λ page. not (nat_le s.brk_start (page * 4096) && nat_lt (page * 4096) s.heap_limit)) (keys s.pages)) ≤ 12288

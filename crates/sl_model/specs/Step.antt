@@ -1,0 +1,112 @@
+-- One step of the machine.
+use Rattle.std.specs.Prelude.{◌≡◌, ℕ, ◌+◌, ◌-◌, ◌*◌, ◌%◌, ◌^◌, ◌==◌, Option, Some, None, if◌then◌else◌}
+use Rattle.sl_model.specs.declared.instr.Instr.{Instr}
+use Rattle.sl_model.specs.declared.instr.Instr.TheVariants.{Lui, Auipc, Jal, Jalr, Branch, Load, Store, Immediate, Shift, Register, Multiply, Fence, Ecall, Ebreak}
+use Rattle.sl_model.specs.Pages.{Pages, load_at, store_at}
+use Rattle.sl_model.specs.Words.{meaning}
+use Rattle.sl_model.specs.Arithmetic.{word_add, immediate_word, upper_word, branch_word, jump_word, is_taken, immediate_value, shift_value, register_value, multiply_value, load_width, load_value, store_width}
+use Rattle.sl_model.specs.State.{State, register, set_register}
+
+-- The numbers of traps.
+-- pc, or the target of a jump that is taken, is no multiple of 4
+abbrev pub MISALIGNED : ℕ
+MISALIGNED = 0
+
+-- a byte at pc is not mapped
+abbrev pub FETCH : ℕ
+FETCH = 1
+
+-- the word at pc means no instruction
+abbrev pub ILLEGAL : ℕ
+ILLEGAL = 2
+
+-- EBREAK
+abbrev pub BREAKPOINT : ℕ
+BREAKPOINT = 3
+
+-- a load touches a byte that is not mapped
+abbrev pub LOAD_FAULT : ℕ
+LOAD_FAULT = 5
+
+-- a store touches a byte that is not mapped
+abbrev pub STORE_FAULT : ℕ
+STORE_FAULT = 7
+
+-- what the next instruction does
+pub data Next : Type 0 where
+  -- it leads to this state
+  Stepped : (state : State) → Next
+  -- it is a system call, which the machine alone does not answer
+  Called : Next
+  -- it traps, and changes nothing
+  Trapped : (number : ℕ) → Next
+
+-- the state with another value of a register
+abbrev pub put_register : State → ℕ → ℕ → State
+put_register s rd value = record s { x = set_register s.x rd value }
+
+-- the state at another place, with one more instruction done
+abbrev pub gone_to : State → ℕ → State
+gone_to s pc = record s { pc = pc; count = s.count + 1 }
+
+-- the place after an instruction
+abbrev pub after : State → ℕ
+after s = word_add s.pc 4
+
+-- to the next place, with a value in a register
+abbrev pub advance : State → ℕ → ℕ → Next
+advance s rd value = Stepped (gone_to (put_register s rd value) (after s))
+
+-- a jump, which leaves the place after it in a register
+abbrev pub jump : State → ℕ → ℕ → Next
+jump s rd target = if target % 4 == 0 then Stepped (gone_to (put_register s rd (after s)) target) else Trapped MISALIGNED
+
+-- a branch, which writes no register
+abbrev pub branch : State → ℕ → Next
+branch s target = if target % 4 == 0 then Stepped (gone_to s target) else Trapped MISALIGNED
+
+-- the address of a load, of a store and of JALR
+abbrev pub address : State → ℕ → ℕ → ℕ
+address s rs1 offset = word_add (register s rs1) (immediate_word offset)
+
+-- the address with bit 0 cleared
+abbrev pub even : ℕ → ℕ
+even a = a - a % 2
+
+abbrev pub loaded : State → ℕ → (ℕ → ℕ) → Option ℕ → Next
+loaded s rd value None = Trapped LOAD_FAULT
+loaded s rd value (Some n) = advance s rd (value n)
+
+abbrev pub stored : State → Option Pages → Next
+stored s None = Trapped STORE_FAULT
+stored s (Some pages) = Stepped (gone_to (record s { pages = pages }) (after s))
+
+-- what an instruction does
+unfoldable pub execute : State → Instr → Next
+execute s (Lui rd imm) = advance s rd (upper_word imm)
+execute s (Auipc rd imm) = advance s rd (word_add s.pc (upper_word imm))
+execute s (Jal rd offset) = jump s rd (word_add s.pc (jump_word offset))
+execute s (Jalr rd rs1 offset) = jump s rd (even (address s rs1 offset))
+execute s (Branch op rs1 rs2 offset) = if is_taken op (register s rs1) (register s rs2) then branch s (word_add s.pc (branch_word offset)) else Stepped (gone_to s (after s))
+execute s (Load op rd rs1 offset) = loaded s rd (load_value op) (load_at s.pages (address s rs1 offset) (load_width op))
+execute s (Store op rs1 rs2 offset) = stored s (store_at s.pages (address s rs1 offset) (store_width op) (register s rs2))
+execute s (Immediate op rd rs1 imm) = advance s rd (immediate_value op (register s rs1) (immediate_word imm))
+execute s (Shift op rd rs1 amount) = advance s rd (shift_value op (register s rs1) amount)
+execute s (Register op rd rs1 rs2) = advance s rd (register_value op (register s rs1) (register s rs2))
+execute s (Multiply op rd rs1 rs2) = advance s rd (multiply_value op (register s rs1) (register s rs2))
+execute s (Fence high rd) = Stepped (gone_to s (after s))
+execute s Ecall = Called
+execute s Ebreak = Trapped BREAKPOINT
+
+-- what the word at pc does
+abbrev pub execute_word : State → Option Instr → Next
+execute_word s None = Trapped ILLEGAL
+execute_word s (Some instr) = execute s instr
+
+abbrev pub execute_fetched : State → Option ℕ → Next
+execute_fetched s None = Trapped FETCH
+execute_fetched s (Some word) = execute_word s (meaning word)
+
+-- what a state that runs does next
+unfoldable pub step : State → Next
+step s = if s.pc % 4 == 0 then execute_fetched s (load_at s.pages s.pc 4) else Trapped MISALIGNED

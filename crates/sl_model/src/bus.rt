@@ -1,0 +1,32 @@
+//! Memory as a step sees it.
+
+ghost use Rattle.std.specs.Prelude.{◌≡◌, ℕ, List, Bool, is_some, unwrap_or};
+ghost use Rattle.sl_model.specs.Pages.{Pages, IsWidth, load_at, store_at};
+ghost use Rattle.sl_model.specs.Marks.{MarksGoOn};
+
+/// Memory in pages of 4,096 bytes, some of them marked as changed.
+pub trait Bus {
+    /// The mapped pages.
+    ghost pages: { Self → Pages };
+
+    /// The pages that are marked, the first marked one first.
+    ghost marked: { Self → List ℕ };
+
+    /// Whether what changes is marked.
+    ghost is_marking: { Self → Bool };
+
+    /// The little-endian number in the `width` bytes at an address, with no sign; `None` exactly where one of
+    /// them is not mapped.
+    fn load(&self, addr: u32, width: u8) -> Option<u32>
+        requires { IsWidth width }
+        ensures { result ≡ load_at (pages self.now) addr width };
+
+    /// Writes the low `width` bytes of a value at an address, the lowest first. `false` comes exactly where one
+    /// of them is not mapped, and then nothing changed.
+    fn store(&mut self, addr: u32, width: u8, value: u32) -> bool
+        requires { IsWidth width }
+        ensures mapped { result ≡ is_some (store_at (pages self.old) addr width value) }
+        ensures bytes { pages self.new ≡ unwrap_or (store_at (pages self.old) addr width value) (pages self.old) }
+        ensures marking { is_marking self.new ≡ is_marking self.old }
+        ensures marks { MarksGoOn (is_marking self.old) (pages self.old) (marked self.old) (pages self.new) (marked self.new) };
+}
