@@ -154,17 +154,23 @@ no_load : execute (bare zeros_32) (Load Lw 1 0 0xffe) ≡ Trapped 5
 unfolding execute load_at bytes_at byte_at
 no_load = rw (get-empty nat_cmp 0xfffff) refl
 
--- the last page of the address space
-abbrev last_page : Pages
-last_page = from_sorted ((0xfffff, replicate 4096 1) ∷ [])
+abbrev page_of_ones : List ℕ
+page_of_ones = replicate 4096 1
 
-last_is_mapped : get last_page 0xfffff ≡ Some (replicate 4096 1)
-last_is_mapped = get-from_sorted nat_cmp _ 0xfffff tt
+-- the last page of the address space
+abbrev pages_of_it : List (ℕ × List ℕ)
+pages_of_it = (0xfffff, page_of_ones) ∷ []
+
+abbrev last_page : Pages
+last_page = from_sorted pages_of_it
+
+last_is_mapped : get last_page 0xfffff ≡ Some page_of_ones
+last_is_mapped = get-from_sorted nat_cmp pages_of_it 0xfffff tt
 
 -- a byte from 2 ^ 32 on is mapped nowhere, and addresses do not wrap within an access
 across_the_end : load_at last_page 0xfffffffe 4 ≡ None
 unfolding load_at bytes_at byte_at
-across_the_end = rw (last_is_mapped, get-from_sorted nat_cmp ((0xfffff, replicate 4096 1) ∷ []) 0x100000 tt) refl
+across_the_end = rw (last_is_mapped, get-from_sorted nat_cmp pages_of_it 0x100000 tt) refl
 
 up_to_the_end : load_at last_page 0xfffffffc 4 ≡ Some 0x01010101
 unfolding load_at bytes_at byte_at
