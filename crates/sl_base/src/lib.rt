@@ -3,11 +3,23 @@
 #![tactic(auto)]
 
 mod call;
+mod gate;
 mod refused;
 mod seq;
+mod sink;
+mod store;
 mod symbol;
+#[cfg(test)]
+mod tests;
+mod text;
+mod world;
 
 pub use call::Call;
+pub use gate::{Gate, NoGate};
 pub use refused::{Memory, Refused};
 pub use seq::Seq;
+pub use sink::{Sink, SinkFailed, write_all};
+pub use store::{GetFault, PutFault, Store};
 pub use symbol::Symbol;
+pub use text::{DecimalText, WordText, decimal_text, word_text};
+pub use world::{Reply, World};

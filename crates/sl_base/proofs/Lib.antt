@@ -1,0 +1,2 @@
+pub mod WorldRows
+pub mod WrittenLemmas

@@ -1,0 +1,5 @@
+pub mod Faults
+pub mod Files
+pub mod Text
+pub mod World
+pub mod Written
