@@ -1,0 +1,5 @@
+pub mod Place
+pub mod Rules
+pub mod Listings
+pub mod Spelling
+pub mod Reading

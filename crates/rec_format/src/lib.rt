@@ -1,0 +1,18 @@
+//! Recordings of runs: the format of version 1, read and written exactly.
+#![tactic(auto)]
+
+mod calls;
+mod checkpoints;
+mod cursor;
+mod fault;
+mod limits;
+mod listings;
+mod reading;
+mod recording;
+
+pub use fault::{RecCause, RecFault, TooLarge};
+pub use reading::read_recording;
+pub use recording::{CheckpointData, ListedPage, Recording};
+
+#[cfg(test)]
+mod tests;
