@@ -12,7 +12,7 @@ use Rattle.sl_model.specs.declared.instr.MultiplyOp.TheVariants.{Mul, Mulh, Mulh
 use Rattle.sl_model.specs.declared.instr.Instr.TheVariants.{Lui, Jal, Jalr, Branch, Load, Store, Immediate, Shift, Register, Multiply, Fence, Ecall, Ebreak}
 use Rattle.sl_model.specs.declared.run_state.RunState.TheVariants.{Running}
 use Rattle.sl_model.specs.Pages.{Pages, byte_at, bytes_at, load_at, set_byte}
-use Rattle.sl_model.specs.Words.{meaning, branch_op, load_op, immediate_meaning, shift_op, immediate_op, system_meaning}
+use Rattle.sl_model.specs.Words.{meaning, branch_meaning, branch_op, load_op, immediate_meaning, shift_op, immediate_op, fence_meaning, system_meaning}
 use Rattle.sl_model.specs.Arithmetic.{multiply_value, register_value, shift_value, immediate_value, immediate_word, branch_word, jump_word, load_value, is_taken}
 use Rattle.sl_model.specs.State.{State}
 use Rattle.sl_model.specs.Step.{Next, Stepped, Called, Trapped, execute, step}
@@ -102,11 +102,11 @@ unfolding meaning
 jal_back = refl
 
 beq_back : meaning 0xfe000ee3 ≡ Some (Branch Beq 0 0 0xffe)
-unfolding meaning branch_op
+unfolding meaning branch_meaning branch_op
 beq_back = refl
 
 fence_i : meaning 0x0000100f ≡ None
-unfolding meaning
+unfolding meaning fence_meaning
 fence_i = refl
 
 zeros : meaning 0 ≡ None

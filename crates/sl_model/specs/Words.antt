@@ -189,6 +189,22 @@ register_op f7 f3 = if f7 == 0b0000000 then plain_register_op f3 else if f7 == 0
 unfoldable pub multiply_op : ℕ → Option MultiplyOp
 multiply_op f = if f == 0b000 then Some Mul else if f == 0b001 then Some Mulh else if f == 0b010 then Some Mulhsu else if f == 0b011 then Some Mulhu else if f == 0b100 then Some Div else if f == 0b101 then Some Divu else if f == 0b110 then Some Rem else if f == 0b111 then Some Remu else None
 
+-- a word of opcode 1100111
+unfoldable pub jalr_meaning : ℕ → Option Instr
+jalr_meaning word = if funct3 word == 0b000 then Some (Jalr (rd_of word) (rs1_of word) (i_immediate word)) else None
+
+-- a word of opcode 1100011
+unfoldable pub branch_meaning : ℕ → Option Instr
+branch_meaning word = option_map (λ op. Branch op (rs1_of word) (rs2_of word) (b_immediate word)) (branch_op (funct3 word))
+
+-- a word of opcode 0000011
+unfoldable pub load_meaning : ℕ → Option Instr
+load_meaning word = option_map (λ op. Load op (rd_of word) (rs1_of word) (i_immediate word)) (load_op (funct3 word))
+
+-- a word of opcode 0100011
+unfoldable pub store_meaning : ℕ → Option Instr
+store_meaning word = option_map (λ op. Store op (rs1_of word) (rs2_of word) (s_immediate word)) (store_op (funct3 word))
+
 -- a word of opcode 0010011
 unfoldable pub immediate_meaning : ℕ → Option Instr
 immediate_meaning word =
@@ -202,6 +218,10 @@ register_meaning word =
   if funct7 word == 0b0000001 then option_map (λ op. Multiply op (rd_of word) (rs1_of word) (rs2_of word)) (multiply_op (funct3 word))
   else option_map (λ op. Register op (rd_of word) (rs1_of word) (rs2_of word)) (register_op (funct7 word) (funct3 word))
 
+-- a word of opcode 0001111
+unfoldable pub fence_meaning : ℕ → Option Instr
+fence_meaning word = if funct3 word == 0b000 then Some (Fence (bits 31 15 word) (rd_of word)) else None
+
 -- a word of opcode 1110011
 unfoldable pub system_meaning : ℕ → Option Instr
 system_meaning word = if word == 0x00000073 then Some Ecall else if word == 0x00100073 then Some Ebreak else None
@@ -211,12 +231,12 @@ meaning word =
   if opcode word == 0b0110111 then Some (Lui (rd_of word) (u_immediate word))
   else if opcode word == 0b0010111 then Some (Auipc (rd_of word) (u_immediate word))
   else if opcode word == 0b1101111 then Some (Jal (rd_of word) (j_immediate word))
-  else if opcode word == 0b1100111 then (if funct3 word == 0b000 then Some (Jalr (rd_of word) (rs1_of word) (i_immediate word)) else None)
-  else if opcode word == 0b1100011 then option_map (λ op. Branch op (rs1_of word) (rs2_of word) (b_immediate word)) (branch_op (funct3 word))
-  else if opcode word == 0b0000011 then option_map (λ op. Load op (rd_of word) (rs1_of word) (i_immediate word)) (load_op (funct3 word))
-  else if opcode word == 0b0100011 then option_map (λ op. Store op (rs1_of word) (rs2_of word) (s_immediate word)) (store_op (funct3 word))
+  else if opcode word == 0b1100111 then jalr_meaning word
+  else if opcode word == 0b1100011 then branch_meaning word
+  else if opcode word == 0b0000011 then load_meaning word
+  else if opcode word == 0b0100011 then store_meaning word
   else if opcode word == 0b0010011 then immediate_meaning word
   else if opcode word == 0b0110011 then register_meaning word
-  else if opcode word == 0b0001111 then (if funct3 word == 0b000 then Some (Fence (bits 31 15 word) (rd_of word)) else None)
+  else if opcode word == 0b0001111 then fence_meaning word
   else if opcode word == 0b1110011 then system_meaning word
   else None

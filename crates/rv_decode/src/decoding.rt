@@ -1,0 +1,168 @@
+//! From a word to its instruction.
+
+ghost use Rattle.std.specs.Prelude.{◌≡◌, IfSome};
+ghost use Rattle.sl_model.specs.Words.{meaning, jalr_meaning, branch_meaning, load_meaning, store_meaning, immediate_meaning, register_meaning, fence_meaning, system_meaning, Means};
+
+use crate::{fields, operations};
+use sl_model::Instr;
+
+/// A word of opcode 1100111.
+#[tactic(auto, unfolding(sl_model::specs::Words::jalr_meaning))]
+fn register_jump(word: u32) -> Option<Instr>
+    ensures { result ≡ jalr_meaning word }
+{
+    if fields::funct3(word) != 0b000 {
+        return None;
+    }
+    let rd = fields::rd(word);
+    let rs1 = fields::rs1(word);
+    let offset = fields::immediate(word);
+    Some(Instr::Jalr { rd, rs1, offset })
+}
+
+/// A word of opcode 1100011.
+#[tactic(auto, unfolding(sl_model::specs::Words::branch_meaning))]
+fn branch(word: u32) -> Option<Instr>
+    ensures { result ≡ branch_meaning word }
+{
+    let op = operations::branch(fields::funct3(word))?;
+    let rs1 = fields::rs1(word);
+    let rs2 = fields::rs2(word);
+    let offset = fields::branch_offset(word);
+    Some(Instr::Branch {
+        op,
+        rs1,
+        rs2,
+        offset,
+    })
+}
+
+/// A word of opcode 0000011.
+#[tactic(auto, unfolding(sl_model::specs::Words::load_meaning))]
+fn load(word: u32) -> Option<Instr>
+    ensures { result ≡ load_meaning word }
+{
+    let op = operations::load(fields::funct3(word))?;
+    let rd = fields::rd(word);
+    let rs1 = fields::rs1(word);
+    let offset = fields::immediate(word);
+    Some(Instr::Load {
+        op,
+        rd,
+        rs1,
+        offset,
+    })
+}
+
+/// A word of opcode 0100011.
+#[tactic(auto, unfolding(sl_model::specs::Words::store_meaning))]
+fn store(word: u32) -> Option<Instr>
+    ensures { result ≡ store_meaning word }
+{
+    let op = operations::store(fields::funct3(word))?;
+    let rs1 = fields::rs1(word);
+    let rs2 = fields::rs2(word);
+    let offset = fields::store_offset(word);
+    Some(Instr::Store {
+        op,
+        rs1,
+        rs2,
+        offset,
+    })
+}
+
+/// A word of opcode 0010011.
+#[tactic(auto, unfolding(sl_model::specs::Words::immediate_meaning))]
+fn immediate(word: u32) -> Option<Instr>
+    ensures { result ≡ immediate_meaning word }
+{
+    let funct3 = fields::funct3(word);
+    let rd = fields::rd(word);
+    let rs1 = fields::rs1(word);
+    if funct3 == 0b001 || funct3 == 0b101 {
+        let op = operations::shift(fields::funct7(word), funct3)?;
+        let amount = fields::rs2(word);
+        return Some(Instr::Shift {
+            op,
+            rd,
+            rs1,
+            amount,
+        });
+    }
+    let op = operations::immediate(funct3)?;
+    let imm = fields::immediate(word);
+    Some(Instr::Immediate { op, rd, rs1, imm })
+}
+
+/// A word of opcode 0110011.
+#[tactic(auto, unfolding(sl_model::specs::Words::register_meaning))]
+fn register(word: u32) -> Option<Instr>
+    ensures { result ≡ register_meaning word }
+{
+    let funct7 = fields::funct7(word);
+    let funct3 = fields::funct3(word);
+    let rd = fields::rd(word);
+    let rs1 = fields::rs1(word);
+    let rs2 = fields::rs2(word);
+    if funct7 == 0b0000001 {
+        let op = operations::multiply(funct3)?;
+        return Some(Instr::Multiply { op, rd, rs1, rs2 });
+    }
+    let op = operations::register(funct7, funct3)?;
+    Some(Instr::Register { op, rd, rs1, rs2 })
+}
+
+/// A word of opcode 0001111.
+#[tactic(auto, unfolding(sl_model::specs::Words::fence_meaning))]
+fn fence(word: u32) -> Option<Instr>
+    ensures { result ≡ fence_meaning word }
+{
+    if fields::funct3(word) != 0b000 {
+        return None;
+    }
+    let high = fields::fence_fields(word);
+    let rd = fields::rd(word);
+    Some(Instr::Fence { high, rd })
+}
+
+/// A word of opcode 1110011.
+#[tactic(auto, unfolding(sl_model::specs::Words::system_meaning))]
+fn system(word: u32) -> Option<Instr>
+    ensures { result ≡ system_meaning word }
+{
+    match word {
+        0x0000_0073 => Some(Instr::Ecall),
+        0x0010_0073 => Some(Instr::Ebreak),
+        _ => None,
+    }
+}
+
+/// The instruction that a word means; `None` exactly where it means none.
+#[tactic(auto, unfolding(sl_model::specs::Words::meaning))]
+pub fn decode(word: u32) -> Option<Instr>
+    ensures { result ≡ meaning word }
+{
+    match fields::opcode(word) {
+        0b0110111 => Some(Instr::Lui {
+            rd: fields::rd(word),
+            imm: fields::upper_immediate(word),
+        }),
+        0b0010111 => Some(Instr::Auipc {
+            rd: fields::rd(word),
+            imm: fields::upper_immediate(word),
+        }),
+        0b1101111 => Some(Instr::Jal {
+            rd: fields::rd(word),
+            offset: fields::jump_offset(word),
+        }),
+        0b1100111 => register_jump(word),
+        0b1100011 => branch(word),
+        0b0000011 => load(word),
+        0b0100011 => store(word),
+        0b0010011 => immediate(word),
+        0b0110011 => register(word),
+        0b0001111 => fence(word),
+        0b1110011 => system(word),
+        _ => None,
+    }
+}

@@ -1,0 +1,11 @@
+//! Instruction words of RV32IM: which instruction a word means, and the word of an instruction.
+#![tactic(auto)]
+
+mod decoding;
+mod fields;
+mod operations;
+
+pub use decoding::decode;
+pub use sl_model::{
+    Bits, BranchOp, ImmediateOp, Instr, LoadOp, MultiplyOp, Register, RegisterOp, ShiftOp, StoreOp,
+};
