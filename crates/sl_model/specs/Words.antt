@@ -1,5 +1,5 @@
 -- The instruction words of RV32IM, by the instruction table of the RISC-V Unprivileged ISA. A word is a number below 2 ^ 32.
-use Rattle.std.specs.Prelude.{◌≡◌, ℕ, ◌+◌, ◌-◌, ◌*◌, ◌/◌, ◌%◌, ◌^◌, ◌<◌, ◌⊎◌, ◌==◌, ◌&&◌, if◌then◌else◌, Option, Some, None}
+use Rattle.std.specs.Prelude.{◌≡◌, ℕ, ◌+◌, ◌-◌, ◌*◌, ◌/◌, ◌%◌, ◌^◌, ◌<◌, ◌==◌, ◌&&◌, if◌then◌else◌, Option, Some, None}
 use Rattle.std.specs.Option.{option_map}
 use Rattle.sl_model.specs.declared.instr.BranchOp.{BranchOp}
 use Rattle.sl_model.specs.declared.instr.BranchOp.TheVariants.{Beq, Bne, Blt, Bge, Bltu, Bgeu}
@@ -208,15 +208,15 @@ store_meaning word = option_map (λ op. Store op (rs1_of word) (rs2_of word) (s_
 -- a word of opcode 0010011
 unfoldable pub immediate_meaning : ℕ → Option Instr
 immediate_meaning word =
-  if funct3 word == 0b001 then option_map (λ op. Shift op (rd_of word) (rs1_of word) (rs2_of word)) (shift_op (funct7 word) (funct3 word))
-  else if funct3 word == 0b101 then option_map (λ op. Shift op (rd_of word) (rs1_of word) (rs2_of word)) (shift_op (funct7 word) (funct3 word))
-  else option_map (λ op. Immediate op (rd_of word) (rs1_of word) (i_immediate word)) (immediate_op (funct3 word))
+    if funct3 word == 0b001 then option_map (λ op. Shift op (rd_of word) (rs1_of word) (rs2_of word)) (shift_op (funct7 word) (funct3 word))
+    else if funct3 word == 0b101 then option_map (λ op. Shift op (rd_of word) (rs1_of word) (rs2_of word)) (shift_op (funct7 word) (funct3 word))
+    else option_map (λ op. Immediate op (rd_of word) (rs1_of word) (i_immediate word)) (immediate_op (funct3 word))
 
 -- a word of opcode 0110011
 unfoldable pub register_meaning : ℕ → Option Instr
 register_meaning word =
-  if funct7 word == 0b0000001 then option_map (λ op. Multiply op (rd_of word) (rs1_of word) (rs2_of word)) (multiply_op (funct3 word))
-  else option_map (λ op. Register op (rd_of word) (rs1_of word) (rs2_of word)) (register_op (funct7 word) (funct3 word))
+    if funct7 word == 0b0000001 then option_map (λ op. Multiply op (rd_of word) (rs1_of word) (rs2_of word)) (multiply_op (funct3 word))
+    else option_map (λ op. Register op (rd_of word) (rs1_of word) (rs2_of word)) (register_op (funct7 word) (funct3 word))
 
 -- a word of opcode 0001111
 unfoldable pub fence_meaning : ℕ → Option Instr
@@ -228,15 +228,15 @@ system_meaning word = if word == 0x00000073 then Some Ecall else if word == 0x00
 
 unfoldable pub meaning : ℕ → Option Instr
 meaning word =
-  if opcode word == 0b0110111 then Some (Lui (rd_of word) (u_immediate word))
-  else if opcode word == 0b0010111 then Some (Auipc (rd_of word) (u_immediate word))
-  else if opcode word == 0b1101111 then Some (Jal (rd_of word) (j_immediate word))
-  else if opcode word == 0b1100111 then jalr_meaning word
-  else if opcode word == 0b1100011 then branch_meaning word
-  else if opcode word == 0b0000011 then load_meaning word
-  else if opcode word == 0b0100011 then store_meaning word
-  else if opcode word == 0b0010011 then immediate_meaning word
-  else if opcode word == 0b0110011 then register_meaning word
-  else if opcode word == 0b0001111 then fence_meaning word
-  else if opcode word == 0b1110011 then system_meaning word
-  else None
+    if opcode word == 0b0110111 then Some (Lui (rd_of word) (u_immediate word))
+    else if opcode word == 0b0010111 then Some (Auipc (rd_of word) (u_immediate word))
+    else if opcode word == 0b1101111 then Some (Jal (rd_of word) (j_immediate word))
+    else if opcode word == 0b1100111 then jalr_meaning word
+    else if opcode word == 0b1100011 then branch_meaning word
+    else if opcode word == 0b0000011 then load_meaning word
+    else if opcode word == 0b0100011 then store_meaning word
+    else if opcode word == 0b0010011 then immediate_meaning word
+    else if opcode word == 0b0110011 then register_meaning word
+    else if opcode word == 0b0001111 then fence_meaning word
+    else if opcode word == 0b1110011 then system_meaning word
+    else None

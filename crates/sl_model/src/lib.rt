@@ -5,9 +5,13 @@
 mod bits;
 mod bus;
 mod instr;
+mod laws;
 mod run_state;
 
 pub use bits::Bits;
 pub use bus::Bus;
-pub use instr::{BranchOp, ImmediateOp, Instr, LoadOp, MultiplyOp, Register, RegisterOp, ShiftOp, StoreOp};
+pub use instr::{
+    BranchOp, ImmediateOp, Instr, LoadOp, MultiplyOp, Register, RegisterOp, ShiftOp, StoreOp,
+};
+pub use laws::{one_meaning, one_word, words_mean};
 pub use run_state::{Layout, RunState};
