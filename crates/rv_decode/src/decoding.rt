@@ -1,12 +1,13 @@
 //! From a word to its instruction.
 
 ghost use Rattle.std.specs.Prelude.{◌≡◌, IfSome};
+ghost use Rattle.sl_model.specs.declared.instr.Instr.{Instr};
 ghost use Rattle.sl_model.specs.Words.{meaning, jalr_meaning, branch_meaning, load_meaning, store_meaning, immediate_meaning, register_meaning, fence_meaning, system_meaning, Means};
 
-use crate::{fields, operations};
-use sl_model::Instr;
+use crate::{fields, opcodes, operations};
+use sl_model::{Instr, words_mean};
 
-/// A word of opcode 1100111.
+/// A word of opcode JALR.
 #[tactic(auto, unfolding(sl_model::specs::Words::jalr_meaning))]
 fn register_jump(word: u32) -> Option<Instr>
     ensures { result ≡ jalr_meaning word }
@@ -20,7 +21,7 @@ fn register_jump(word: u32) -> Option<Instr>
     Some(Instr::Jalr { rd, rs1, offset })
 }
 
-/// A word of opcode 1100011.
+/// A word of opcode BRANCH.
 #[tactic(auto, unfolding(sl_model::specs::Words::branch_meaning))]
 fn branch(word: u32) -> Option<Instr>
     ensures { result ≡ branch_meaning word }
@@ -37,7 +38,7 @@ fn branch(word: u32) -> Option<Instr>
     })
 }
 
-/// A word of opcode 0000011.
+/// A word of opcode LOAD.
 #[tactic(auto, unfolding(sl_model::specs::Words::load_meaning))]
 fn load(word: u32) -> Option<Instr>
     ensures { result ≡ load_meaning word }
@@ -54,7 +55,7 @@ fn load(word: u32) -> Option<Instr>
     })
 }
 
-/// A word of opcode 0100011.
+/// A word of opcode STORE.
 #[tactic(auto, unfolding(sl_model::specs::Words::store_meaning))]
 fn store(word: u32) -> Option<Instr>
     ensures { result ≡ store_meaning word }
@@ -71,7 +72,7 @@ fn store(word: u32) -> Option<Instr>
     })
 }
 
-/// A word of opcode 0010011.
+/// A word of opcode OP-IMM.
 #[tactic(auto, unfolding(sl_model::specs::Words::immediate_meaning))]
 fn immediate(word: u32) -> Option<Instr>
     ensures { result ≡ immediate_meaning word }
@@ -94,7 +95,7 @@ fn immediate(word: u32) -> Option<Instr>
     Some(Instr::Immediate { op, rd, rs1, imm })
 }
 
-/// A word of opcode 0110011.
+/// A word of opcode OP.
 #[tactic(auto, unfolding(sl_model::specs::Words::register_meaning))]
 fn register(word: u32) -> Option<Instr>
     ensures { result ≡ register_meaning word }
@@ -112,7 +113,7 @@ fn register(word: u32) -> Option<Instr>
     Some(Instr::Register { op, rd, rs1, rs2 })
 }
 
-/// A word of opcode 0001111.
+/// A word of opcode MISC-MEM.
 #[tactic(auto, unfolding(sl_model::specs::Words::fence_meaning))]
 fn fence(word: u32) -> Option<Instr>
     ensures { result ≡ fence_meaning word }
@@ -125,7 +126,7 @@ fn fence(word: u32) -> Option<Instr>
     Some(Instr::Fence { high, rd })
 }
 
-/// A word of opcode 1110011.
+/// A word of opcode SYSTEM.
 #[tactic(auto, unfolding(sl_model::specs::Words::system_meaning))]
 fn system(word: u32) -> Option<Instr>
     ensures { result ≡ system_meaning word }
@@ -138,31 +139,41 @@ fn system(word: u32) -> Option<Instr>
 }
 
 /// The instruction that a word means; `None` exactly where it means none.
-#[tactic(auto, unfolding(sl_model::specs::Words::meaning))]
 pub fn decode(word: u32) -> Option<Instr>
+    ensures value { result ≡ meaning word }
+    ensures found { IfSome result (Means word) }
+    ensures only { (instr : Instr) → Means word instr → result ≡ Some instr }
+{
+    words_mean();
+    by_opcode(word)
+}
+
+/// The instruction, by the opcode.
+#[tactic(auto, unfolding(sl_model::specs::Words::meaning))]
+fn by_opcode(word: u32) -> Option<Instr>
     ensures { result ≡ meaning word }
 {
     match fields::opcode(word) {
-        0b0110111 => Some(Instr::Lui {
+        opcodes::LUI => Some(Instr::Lui {
             rd: fields::rd(word),
             imm: fields::upper_immediate(word),
         }),
-        0b0010111 => Some(Instr::Auipc {
+        opcodes::AUIPC => Some(Instr::Auipc {
             rd: fields::rd(word),
             imm: fields::upper_immediate(word),
         }),
-        0b1101111 => Some(Instr::Jal {
+        opcodes::JAL => Some(Instr::Jal {
             rd: fields::rd(word),
             offset: fields::jump_offset(word),
         }),
-        0b1100111 => register_jump(word),
-        0b1100011 => branch(word),
-        0b0000011 => load(word),
-        0b0100011 => store(word),
-        0b0010011 => immediate(word),
-        0b0110011 => register(word),
-        0b0001111 => fence(word),
-        0b1110011 => system(word),
+        opcodes::JALR => register_jump(word),
+        opcodes::BRANCH => branch(word),
+        opcodes::LOAD => load(word),
+        opcodes::STORE => store(word),
+        opcodes::OP_IMM => immediate(word),
+        opcodes::OP => register(word),
+        opcodes::MISC_MEM => fence(word),
+        opcodes::SYSTEM => system(word),
         _ => None,
     }
 }

@@ -70,7 +70,7 @@ pub fn fence_fields(word: u32) -> Bits<17>
 }
 
 /// A number of 32 bits whose low `width` bits are `low` and whose other bits are `high`.
-fn joined(high: u32, low: u32, width: u32) -> u32
+pub fn joined(high: u32, low: u32, width: u32) -> u32
     requires narrow { width < 32 }
     requires low { low < 2 ^ width }
     requires high { high * 2 ^ width < 2 ^ 32 }

@@ -2,10 +2,14 @@
 #![tactic(auto)]
 
 mod decoding;
+mod encoding;
 mod fields;
+mod formats;
+mod opcodes;
 mod operations;
 
 pub use decoding::decode;
+pub use encoding::encode;
 pub use sl_model::{
     Bits, BranchOp, ImmediateOp, Instr, LoadOp, MultiplyOp, Register, RegisterOp, ShiftOp, StoreOp,
 };

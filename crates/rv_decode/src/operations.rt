@@ -1,7 +1,7 @@
 //! The operations that funct3 and funct7 name, by the instruction table of the RISC-V Unprivileged ISA.
 
-ghost use Rattle.std.specs.Prelude.{◌≡◌};
-ghost use Rattle.sl_model.specs.Words.{branch_op, load_op, store_op, immediate_op, shift_op, register_op, multiply_op};
+ghost use Rattle.std.specs.Prelude.{◌≡◌, ◌^◌, ◌<◌};
+ghost use Rattle.sl_model.specs.Words.{branch_op, load_op, store_op, immediate_op, shift_op, register_op, multiply_op, branch_funct3, load_funct3, store_funct3, immediate_funct3, shift_funct3, shift_funct7, register_funct3, register_funct7, multiply_funct3};
 
 use sl_model::{BranchOp, ImmediateOp, LoadOp, MultiplyOp, RegisterOp, ShiftOp, StoreOp};
 
@@ -113,5 +113,140 @@ pub fn multiply(funct3: u32) -> Option<MultiplyOp>
         0b110 => Some(MultiplyOp::Rem),
         0b111 => Some(MultiplyOp::Remu),
         _ => None,
+    }
+}
+
+/// funct3 of a branch.
+pub fn branch_funct3(op: BranchOp) -> u32
+    ensures value { result ≡ branch_funct3 op }
+    ensures fits { result < 2 ^ 3 }
+{
+    match op {
+        BranchOp::Beq => 0b000,
+        BranchOp::Bne => 0b001,
+        BranchOp::Blt => 0b100,
+        BranchOp::Bge => 0b101,
+        BranchOp::Bltu => 0b110,
+        BranchOp::Bgeu => 0b111,
+    }
+}
+
+/// funct3 of a load.
+pub fn load_funct3(op: LoadOp) -> u32
+    ensures value { result ≡ load_funct3 op }
+    ensures fits { result < 2 ^ 3 }
+{
+    match op {
+        LoadOp::Lb => 0b000,
+        LoadOp::Lh => 0b001,
+        LoadOp::Lw => 0b010,
+        LoadOp::Lbu => 0b100,
+        LoadOp::Lhu => 0b101,
+    }
+}
+
+/// funct3 of a store.
+pub fn store_funct3(op: StoreOp) -> u32
+    ensures value { result ≡ store_funct3 op }
+    ensures fits { result < 2 ^ 3 }
+{
+    match op {
+        StoreOp::Sb => 0b000,
+        StoreOp::Sh => 0b001,
+        StoreOp::Sw => 0b010,
+    }
+}
+
+/// funct3 of a operation with an immediate.
+pub fn immediate_funct3(op: ImmediateOp) -> u32
+    ensures value { result ≡ immediate_funct3 op }
+    ensures fits { result < 2 ^ 3 }
+{
+    match op {
+        ImmediateOp::Addi => 0b000,
+        ImmediateOp::Slti => 0b010,
+        ImmediateOp::Sltiu => 0b011,
+        ImmediateOp::Xori => 0b100,
+        ImmediateOp::Ori => 0b110,
+        ImmediateOp::Andi => 0b111,
+    }
+}
+
+/// funct3 of a shift by an amount in the word.
+pub fn shift_funct3(op: ShiftOp) -> u32
+    ensures value { result ≡ shift_funct3 op }
+    ensures fits { result < 2 ^ 3 }
+{
+    match op {
+        ShiftOp::Slli => 0b001,
+        ShiftOp::Srli => 0b101,
+        ShiftOp::Srai => 0b101,
+    }
+}
+
+/// funct7 of a shift by an amount in the word.
+pub fn shift_funct7(op: ShiftOp) -> u32
+    ensures value { result ≡ shift_funct7 op }
+    ensures fits { result < 2 ^ 7 }
+{
+    match op {
+        ShiftOp::Slli => 0b0000000,
+        ShiftOp::Srli => 0b0000000,
+        ShiftOp::Srai => 0b0100000,
+    }
+}
+
+/// funct3 of a operation of two registers.
+pub fn register_funct3(op: RegisterOp) -> u32
+    ensures value { result ≡ register_funct3 op }
+    ensures fits { result < 2 ^ 3 }
+{
+    match op {
+        RegisterOp::Add => 0b000,
+        RegisterOp::Sub => 0b000,
+        RegisterOp::Sll => 0b001,
+        RegisterOp::Slt => 0b010,
+        RegisterOp::Sltu => 0b011,
+        RegisterOp::Xor => 0b100,
+        RegisterOp::Srl => 0b101,
+        RegisterOp::Sra => 0b101,
+        RegisterOp::Or => 0b110,
+        RegisterOp::And => 0b111,
+    }
+}
+
+/// funct7 of a operation of two registers.
+pub fn register_funct7(op: RegisterOp) -> u32
+    ensures value { result ≡ register_funct7 op }
+    ensures fits { result < 2 ^ 7 }
+{
+    match op {
+        RegisterOp::Add => 0b0000000,
+        RegisterOp::Sub => 0b0100000,
+        RegisterOp::Sll => 0b0000000,
+        RegisterOp::Slt => 0b0000000,
+        RegisterOp::Sltu => 0b0000000,
+        RegisterOp::Xor => 0b0000000,
+        RegisterOp::Srl => 0b0000000,
+        RegisterOp::Sra => 0b0100000,
+        RegisterOp::Or => 0b0000000,
+        RegisterOp::And => 0b0000000,
+    }
+}
+
+/// funct3 of a operation of the "M" extension.
+pub fn multiply_funct3(op: MultiplyOp) -> u32
+    ensures value { result ≡ multiply_funct3 op }
+    ensures fits { result < 2 ^ 3 }
+{
+    match op {
+        MultiplyOp::Mul => 0b000,
+        MultiplyOp::Mulh => 0b001,
+        MultiplyOp::Mulhsu => 0b010,
+        MultiplyOp::Mulhu => 0b011,
+        MultiplyOp::Div => 0b100,
+        MultiplyOp::Divu => 0b101,
+        MultiplyOp::Rem => 0b110,
+        MultiplyOp::Remu => 0b111,
     }
 }
