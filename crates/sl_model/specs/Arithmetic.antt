@@ -1,5 +1,5 @@
 -- What the operations of RV32IM give, on words from 0 to 2 ^ 32 - 1 ("RV32I Base Integer Instruction Set" and the "M" extension).
-use Rattle.std.specs.Prelude.{ℕ, ◌+◌, ◌-◌, ◌*◌, ◌/◌, ◌%◌, ◌^◌, ◌==◌, if◌then◌else◌, nat_lt, nat_le, not, Bool, int_lt, int_div, int_rem, bit_and, bit_or, bit_xor, ℤ, pos, ◌*ℤ◌}
+use Rattle.std.specs.Prelude.{ℕ, ◌+◌, ◌-◌, ◌*◌, ◌/◌, ◌%◌, ◌^◌, ◌==◌, if◌then◌else◌, nat_lt, not, Bool, int_lt, int_div, int_rem, bit_and, bit_or, bit_xor, ℤ, pos, ◌*ℤ◌}
 use Rattle.std.specs.Int.{w32, w64, cast_signed, cast_unsigned, int_shr}
 use Rattle.sl_model.specs.declared.instr.BranchOp.{BranchOp}
 use Rattle.sl_model.specs.declared.instr.BranchOp.TheVariants.{Beq, Bne, Blt, Bge, Bltu, Bgeu}

@@ -1,5 +1,5 @@
 -- The state of the machine.
-use Rattle.std.specs.Prelude.{◌≡◌, ℕ, ◌+◌, ◌*◌, ◌%◌, ◌^◌, ◌<◌, ◌≤◌, ◌==◌, ◌&&◌, ◌↔◌, List, length, slice_index, slice_set, if◌then◌else◌, IsSome, Option, nat_lt, nat_le, not, filter}
+use Rattle.std.specs.Prelude.{◌≡◌, ℕ, ◌+◌, ◌*◌, ◌%◌, ◌^◌, ◌<◌, ◌≤◌, ◌==◌, ◌&&◌, ◌↔◌, List, length, slice_index, slice_set, if◌then◌else◌, IsSome, nat_lt, nat_le, not, filter}
 use Rattle.std.specs.List.{AllByRecursion}
 use Rattle.std.specs.FinMap.{get, keys}
 use Rattle.sl_model.specs.declared.run_state.RunState.{RunState}

@@ -1,5 +1,7 @@
 -- One step of the machine.
-use Rattle.std.specs.Prelude.{◌≡◌, ℕ, ◌+◌, ◌-◌, ◌*◌, ◌%◌, ◌^◌, ◌==◌, Option, Some, None, if◌then◌else◌}
+use Rattle.std.specs.Prelude.{ℕ, ◌+◌, ◌-◌, ◌%◌, ◌==◌, Option, Some, None, if◌then◌else◌}
+use Rattle.sl_model.specs.declared.instr.LoadOp.{LoadOp}
+use Rattle.sl_model.specs.declared.instr.StoreOp.{StoreOp}
 use Rattle.sl_model.specs.declared.instr.Instr.{Instr}
 use Rattle.sl_model.specs.declared.instr.Instr.TheVariants.{Lui, Auipc, Jal, Jalr, Branch, Load, Store, Immediate, Shift, Register, Multiply, Fence, Ecall, Ebreak}
 use Rattle.sl_model.specs.Pages.{Pages, load_at, store_at}
@@ -73,13 +75,25 @@ address s rs1 offset = word_add (register s rs1) (immediate_word offset)
 abbrev pub even : ℕ → ℕ
 even a = a - a % 2
 
-abbrev pub loaded : State → ℕ → (ℕ → ℕ) → Option ℕ → Next
-loaded s rd value None = Trapped LOAD_FAULT
-loaded s rd value (Some n) = advance s rd (value n)
+-- to the next place, with no other change
+abbrev pub pass : State → Next
+pass s = Stepped (gone_to s (after s))
 
+-- a load of what stands at an address
+abbrev pub loaded : State → LoadOp → ℕ → Option ℕ → Next
+loaded s op rd None = Trapped LOAD_FAULT
+loaded s op rd (Some n) = advance s rd (load_value op n)
+
+abbrev pub load : State → LoadOp → ℕ → ℕ → Next
+load s op rd addr = loaded s op rd (load_at s.pages addr (load_width op))
+
+-- a store at an address
 abbrev pub stored : State → Option Pages → Next
 stored s None = Trapped STORE_FAULT
-stored s (Some pages) = Stepped (gone_to (record s { pages = pages }) (after s))
+stored s (Some pages) = pass (record s { pages = pages })
+
+abbrev pub store : State → StoreOp → ℕ → ℕ → Next
+store s op addr value = stored s (store_at s.pages addr (store_width op) value)
 
 -- what an instruction does
 unfoldable pub execute : State → Instr → Next
@@ -87,14 +101,14 @@ execute s (Lui rd imm) = advance s rd (upper_word imm)
 execute s (Auipc rd imm) = advance s rd (word_add s.pc (upper_word imm))
 execute s (Jal rd offset) = jump s rd (word_add s.pc (jump_word offset))
 execute s (Jalr rd rs1 offset) = jump s rd (even (address s rs1 offset))
-execute s (Branch op rs1 rs2 offset) = if is_taken op (register s rs1) (register s rs2) then branch s (word_add s.pc (branch_word offset)) else Stepped (gone_to s (after s))
-execute s (Load op rd rs1 offset) = loaded s rd (load_value op) (load_at s.pages (address s rs1 offset) (load_width op))
-execute s (Store op rs1 rs2 offset) = stored s (store_at s.pages (address s rs1 offset) (store_width op) (register s rs2))
+execute s (Branch op rs1 rs2 offset) = if is_taken op (register s rs1) (register s rs2) then branch s (word_add s.pc (branch_word offset)) else pass s
+execute s (Load op rd rs1 offset) = load s op rd (address s rs1 offset)
+execute s (Store op rs1 rs2 offset) = store s op (address s rs1 offset) (register s rs2)
 execute s (Immediate op rd rs1 imm) = advance s rd (immediate_value op (register s rs1) (immediate_word imm))
 execute s (Shift op rd rs1 amount) = advance s rd (shift_value op (register s rs1) amount)
 execute s (Register op rd rs1 rs2) = advance s rd (register_value op (register s rs1) (register s rs2))
 execute s (Multiply op rd rs1 rs2) = advance s rd (multiply_value op (register s rs1) (register s rs2))
-execute s (Fence high rd) = Stepped (gone_to s (after s))
+execute s (Fence high rd) = pass s
 execute s Ecall = Called
 execute s Ebreak = Trapped BREAKPOINT
 

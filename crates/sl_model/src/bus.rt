@@ -1,6 +1,7 @@
 //! Memory as a step sees it.
 
-ghost use Rattle.std.specs.Prelude.{◌≡◌, ℕ, List, Bool, is_some, unwrap_or};
+ghost use Rattle.std.specs.Prelude.{◌≡◌, ℕ, ◌<◌, ◌^◌, List, Bool, IfSome, is_some, unwrap_or};
+ghost use Rattle.std.specs.Bool.{OnFalse};
 ghost use Rattle.sl_model.specs.Pages.{Pages, IsWidth, load_at, store_at};
 ghost use Rattle.sl_model.specs.Marks.{MarksGoOn};
 
@@ -19,7 +20,8 @@ pub trait Bus {
     /// them is not mapped.
     fn load(&self, addr: u32, width: u8) -> Option<u32>
         requires { IsWidth width }
-        ensures { result ≡ load_at (pages self.now) addr width };
+        ensures value { result ≡ load_at (pages self.now) addr width }
+        ensures fits { IfSome result (λ n. n < 256 ^ width) };
 
     /// Writes the low `width` bytes of a value at an address, the lowest first. `false` comes exactly where one
     /// of them is not mapped, and then nothing changed.
@@ -27,6 +29,7 @@ pub trait Bus {
         requires { IsWidth width }
         ensures mapped { result ≡ is_some (store_at (pages self.old) addr width value) }
         ensures bytes { pages self.new ≡ unwrap_or (store_at (pages self.old) addr width value) (pages self.old) }
+        ensures unmapped { OnFalse result (marked self.new ≡ marked self.old) }
         ensures marking { is_marking self.new ≡ is_marking self.old }
         ensures marks { MarksGoOn (is_marking self.old) (pages self.old) (marked self.old) (pages self.new) (marked self.new) };
 }

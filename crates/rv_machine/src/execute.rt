@@ -1,0 +1,226 @@
+//! What an instruction does.
+
+ghost use Rattle.std.specs.Prelude.{◌≡◌, ◌≢◌, ◌<◌, ◌^◌, slice_index};
+ghost use Rattle.sl_model.specs.Marks.{MarksGoOn};
+ghost use Rattle.sl_model.specs.Pages.{Pages};
+ghost use Rattle.sl_model.specs.Step as next;
+ghost use Rattle.rv_machine.specs.Machine.{state_of, WentOn, WentTo};
+ghost use Rattle.sl_model.specs.Arithmetic.{word_add, immediate_word};
+ghost use Rattle.sl_model.specs.State.{set_register};
+
+use crate::arithmetic;
+use crate::machine::{Machine, Outcome};
+use sl_model::{Bits, Bus, Instr, LoadOp, Register, StoreOp};
+
+/// The trap of a pc, or of the target of a jump that is taken, that is no multiple of 4.
+pub const MISALIGNED: u32 = 0;
+
+/// The trap of a fetch that touches a byte which is not mapped.
+pub const FETCH: u32 = 1;
+
+/// The trap of a word that means no instruction.
+pub const ILLEGAL: u32 = 2;
+
+/// The trap of EBREAK.
+pub const BREAKPOINT: u32 = 3;
+
+/// The trap of a load that touches a byte which is not mapped.
+pub const LOAD_FAULT: u32 = 5;
+
+/// The trap of a store that touches a byte which is not mapped.
+pub const STORE_FAULT: u32 = 7;
+
+/// The value of a register.
+fn register(m: &Machine, r: Register) -> u32
+    ensures { result ≡ slice_index m.now.x r }
+{
+    m.x[r.value() as usize]
+}
+
+/// Goes to another place, with one more instruction done.
+fn go_to(m: &mut Machine, pc: u32)
+    requires { m.old.count < 2 ^ 62 }
+    ensures { WentTo m.old pc m.old.x m.new }
+{
+    m.pc = pc;
+    m.count += 1;
+}
+
+/// Writes a register, but never x0, and goes to another place.
+fn write_and_go_to(m: &mut Machine, rd: Register, value: u32, pc: u32)
+    requires { m.old.count < 2 ^ 62 }
+    ensures { WentTo m.old pc (set_register m.old.x rd value) m.new }
+{
+    if rd.value() != 0 {
+        m.x[rd.value() as usize] = value;
+    }
+    go_to(m, pc);
+}
+
+/// The address of a load, of a store and of JALR.
+fn address(m: &Machine, rs1: Register, offset: Bits<12>) -> u32
+    ensures { result ≡ word_add (slice_index m.now.x rs1) (immediate_word offset) }
+{
+    register(m, rs1).wrapping_add(arithmetic::immediate_word(offset))
+}
+
+/// Goes to the next place, with a value in a register.
+fn advance(m: &mut Machine, rd: Register, value: u32) -> Outcome
+    requires { m.old.count < 2 ^ 62 }
+    ensures { (pages : Pages) → WentOn (next.advance (state_of m.old pages) rd value) m.old pages result m.new pages }
+{
+    let after = m.pc.wrapping_add(4);
+    write_and_go_to(m, rd, value, after);
+    Outcome::Stepped
+}
+
+/// Jumps, and leaves the place after the jump in a register.
+fn jump(m: &mut Machine, rd: Register, target: u32) -> Outcome
+    requires { m.old.count < 2 ^ 62 }
+    ensures { (pages : Pages) → WentOn (next.jump (state_of m.old pages) rd target) m.old pages result m.new pages }
+{
+    if target % 4 != 0 {
+        return Outcome::Trap(MISALIGNED);
+    }
+    let after = m.pc.wrapping_add(4);
+    write_and_go_to(m, rd, after, target);
+    Outcome::Stepped
+}
+
+/// Jumps, as a branch that is taken does.
+fn branch(m: &mut Machine, target: u32) -> Outcome
+    requires { m.old.count < 2 ^ 62 }
+    ensures { (pages : Pages) → WentOn (next.branch (state_of m.old pages) target) m.old pages result m.new pages }
+{
+    if target % 4 != 0 {
+        return Outcome::Trap(MISALIGNED);
+    }
+    go_to(m, target);
+    Outcome::Stepped
+}
+
+/// Goes to the next place.
+fn pass(m: &mut Machine)
+    requires { m.old.count < 2 ^ 62 }
+    ensures { WentTo m.old (word_add m.old.pc 4) m.old.x m.new }
+{
+    let after = m.pc.wrapping_add(4);
+    go_to(m, after);
+}
+
+/// Loads into a register.
+fn load<B: Bus>(m: &mut Machine, bus: &B, op: LoadOp, rd: Register, addr: u32) -> Outcome
+    requires { m.old.count < 2 ^ 62 }
+    ensures { let pages = B.pages bus.now in WentOn (next.load (state_of m.old pages) op rd addr) m.old pages result m.new pages }
+{
+    match bus.load(addr, arithmetic::load_width(op)) {
+        None => Outcome::Trap(LOAD_FAULT),
+        Some(n) => advance(m, rd, arithmetic::load_value(op, n)),
+    }
+}
+
+/// Stores the low bytes of a value.
+fn store<B: Bus>(m: &mut Machine, bus: &mut B, op: StoreOp, addr: u32, value: u32) -> Outcome
+    requires { m.old.count < 2 ^ 62 }
+    ensures went_on { WentOn (next.store (state_of m.old (B.pages bus.old)) op addr value) m.old (B.pages bus.old) result m.new (B.pages bus.new) }
+    ensures marking { B.is_marking bus.new ≡ B.is_marking bus.old }
+    ensures marks { MarksGoOn (B.is_marking bus.old) (B.pages bus.old) (B.marked bus.old) (B.pages bus.new) (B.marked bus.new) }
+    ensures kept { result ≢ Outcome.Stepped → B.marked bus.new ≡ B.marked bus.old }
+{
+    if bus.store(addr, arithmetic::store_width(op), value) {
+        pass(m);
+        Outcome::Stepped
+    } else {
+        Outcome::Trap(STORE_FAULT)
+    }
+}
+
+/// Does one instruction.
+#[tactic(auto, unfolding(sl_model::specs::Step::execute))]
+pub fn execute<B: Bus>(m: &mut Machine, bus: &mut B, instr: Instr) -> Outcome
+    requires { m.old.count < 2 ^ 62 }
+    ensures went_on { WentOn (next.execute (state_of m.old (B.pages bus.old)) instr) m.old (B.pages bus.old) result m.new (B.pages bus.new) }
+    ensures marking { B.is_marking bus.new ≡ B.is_marking bus.old }
+    ensures marks { MarksGoOn (B.is_marking bus.old) (B.pages bus.old) (B.marked bus.old) (B.pages bus.new) (B.marked bus.new) }
+    ensures kept { result ≢ Outcome.Stepped → B.marked bus.new ≡ B.marked bus.old }
+{
+    match instr {
+        Instr::Lui { rd, imm } => advance(m, rd, arithmetic::upper_word(imm)),
+        Instr::Auipc { rd, imm } => {
+            let value = m.pc.wrapping_add(arithmetic::upper_word(imm));
+            advance(m, rd, value)
+        }
+        Instr::Jal { rd, offset } => {
+            let target = m.pc.wrapping_add(arithmetic::jump_word(offset));
+            jump(m, rd, target)
+        }
+        Instr::Jalr { rd, rs1, offset } => {
+            let target = address(m, rs1, offset);
+            jump(m, rd, target - target % 2)
+        }
+        Instr::Branch {
+            op,
+            rs1,
+            rs2,
+            offset,
+        } => {
+            if arithmetic::is_taken(op, register(m, rs1), register(m, rs2)) {
+                let target = m.pc.wrapping_add(arithmetic::branch_word(offset));
+                branch(m, target)
+            } else {
+                pass(m);
+                Outcome::Stepped
+            }
+        }
+        Instr::Load {
+            op,
+            rd,
+            rs1,
+            offset,
+        } => {
+            let addr = address(m, rs1, offset);
+            load(m, bus, op, rd, addr)
+        }
+        Instr::Store {
+            op,
+            rs1,
+            rs2,
+            offset,
+        } => {
+            let addr = address(m, rs1, offset);
+            let value = register(m, rs2);
+            store(m, bus, op, addr, value)
+        }
+        Instr::Immediate { op, rd, rs1, imm } => {
+            let value = arithmetic::immediate_value(
+                op,
+                register(m, rs1),
+                arithmetic::immediate_word(imm),
+            );
+            advance(m, rd, value)
+        }
+        Instr::Shift {
+            op,
+            rd,
+            rs1,
+            amount,
+        } => {
+            let value = arithmetic::shift_value(op, register(m, rs1), amount.value());
+            advance(m, rd, value)
+        }
+        Instr::Register { op, rd, rs1, rs2 } => {
+            let value = arithmetic::register_value(op, register(m, rs1), register(m, rs2));
+            advance(m, rd, value)
+        }
+        Instr::Multiply { op, rd, rs1, rs2 } => {
+            let value = arithmetic::multiply_value(op, register(m, rs1), register(m, rs2));
+            advance(m, rd, value)
+        }
+        Instr::Fence { .. } => {
+            pass(m);
+            Outcome::Stepped
+        }
+        Instr::Ecall => Outcome::Call,
+        Instr::Ebreak => Outcome::Trap(BREAKPOINT),
+    }
+}

@@ -1,0 +1,8 @@
+//! The machine: one step of RV32IM over any bus.
+#![tactic(auto)]
+
+mod arithmetic;
+mod execute;
+mod machine;
+
+pub use machine::{Machine, Outcome};
