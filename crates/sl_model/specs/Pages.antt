@@ -1,5 +1,5 @@
 -- Memory: pages of 4,096 bytes, by their numbers. Byte i of page p is at address 4,096 * p + i.
-use Rattle.std.specs.Prelude.{◌≡◌, ℕ, zero, suc, ◌+◌, ◌*◌, ◌/◌, ◌%◌, ◌^◌, ◌<◌, ◌⊎◌, List, [], ◌∷◌, length, Option, Some, None, IfSome, slice_get, slice_set}
+use Rattle.std.specs.Prelude.{◌≡◌, ℕ, zero, suc, ◌+◌, ◌*◌, ◌/◌, ◌%◌, ◌^◌, ◌<◌, ◌⊎◌, List, [], ◌∷◌, length, Option, Some, None, IfSome, unwrap_or, slice_get, slice_set}
 use Rattle.std.specs.Ordering.{nat_cmp}
 use Rattle.std.specs.FinMap.{FinMap, get, insert}
 use Rattle.std.specs.List.{AllByRecursion}
@@ -20,7 +20,7 @@ ArePages pages = (number : ℕ) → IfSome (get pages number) (λ page. (number 
 
 -- the byte at an address, or None where it is not mapped
 unfoldable pub byte_at : Pages → ℕ → Option ℕ
-byte_at pages address = option_and_then (λ bytes. slice_get bytes (address % 4096)) (get pages (address / 4096))
+byte_at pages address = option_and_then (λ page. slice_get page (address % 4096)) (get pages (address / 4096))
 
 -- the bytes from an address on, or None where one of them is not mapped
 unfoldable pub bytes_at : Pages → ℕ → ℕ → Option (List ℕ)
@@ -29,10 +29,12 @@ bytes_at pages address (suc count) = option_and_then (λ b. option_map (λ bs. b
 
 -- the pages with another byte at an address; an address that is not mapped changes nothing
 unfoldable pub set_byte : Pages → ℕ → ℕ → Pages
-set_byte pages address b = elim (get pages (address / 4096)) [
-  | None ↦ pages
-  | Some bytes ↦ insert pages (address / 4096) (slice_set bytes (address % 4096) b)
-]
+set_byte pages address b = unwrap_or (option_map (λ page. insert pages (address / 4096) (slice_set page (address % 4096) b)) (get pages (address / 4096))) pages
+
+-- a page with these bytes from an index on
+unfoldable pub put_bytes : List ℕ → ℕ → List ℕ → List ℕ
+put_bytes page index [] = page
+put_bytes page index (b ∷ bs) = put_bytes (slice_set page index b) (index + 1) bs
 
 -- the pages with these bytes from an address on
 unfoldable pub set_bytes : Pages → ℕ → List ℕ → Pages
