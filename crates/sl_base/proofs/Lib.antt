@@ -1,2 +1,3 @@
+pub mod FileListLemmas
 pub mod WorldRows
 pub mod WrittenLemmas

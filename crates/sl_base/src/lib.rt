@@ -3,11 +3,17 @@
 #![tactic(auto)]
 
 mod call;
+mod file_list;
 mod gate;
+mod memory_sink;
+mod memory_store;
+mod memory_world;
+mod planned_faults;
 mod refused;
 mod seq;
 mod sink;
 mod store;
+mod sure;
 mod symbol;
 #[cfg(test)]
 mod tests;
@@ -16,10 +22,14 @@ mod world;
 
 pub use call::Call;
 pub use gate::{Gate, NoGate};
+pub use memory_sink::MemorySink;
+pub use memory_store::MemoryStore;
+pub use memory_world::MemoryWorld;
 pub use refused::{Memory, Refused};
 pub use seq::Seq;
 pub use sink::{Sink, SinkFailed, write_all};
 pub use store::{GetFault, PutFault, Store};
+pub use sure::{SureSink, SureStore};
 pub use symbol::Symbol;
 pub use text::{DecimalText, WordText, decimal_text, word_text};
-pub use world::{Reply, World};
+pub use world::{FAILURE, GETRANDOM, LEAST_ERROR, READ, Reply, WRITE, World};

@@ -1,6 +1,14 @@
-//! What no clause says: values from outside.
+//! What no clause says: values from outside, and that calls succeed.
 
-use crate::{decimal_text, word_text};
+ghost use Rattle.std.specs.Prelude.{◌≡◌, ◌⊎◌};
+
+use crate::{
+    Call, FAILURE, GETRANDOM, Gate, GetFault, MemorySink, MemoryStore, MemoryWorld, NoGate,
+    PutFault, READ, Reply, Seq, Sink, SinkFailed, Store, SureSink, SureStore, WRITE, World,
+    decimal_text, word_text, write_all,
+};
+use std::alloc::{AllocError, Global};
+use std::test::Fail;
 
 #[test]
 fn numbers_as_text(rt: HostRuntime) {
@@ -20,4 +28,101 @@ fn numbers_as_text(rt: HostRuntime) {
     ] {
         assert_eq!(rt; word_text(n).as_bytes(), want.as_bytes());
     }
+}
+
+/// How many bytes a store gives.
+fn got<S: Store>(alloc: Global, store: &mut S, name: &str, limit: u64) -> Result<usize, GetFault> {
+    Ok(store.get(alloc, name, limit)?.len())
+}
+
+fn one_file(alloc: Global) -> Result<Vec<(String, Vec<u8>)>, AllocError> {
+    let name = String::from_str(alloc, "a")?;
+    let bytes = Vec::from_slice(alloc, b"one")?;
+    Ok(vec![in alloc; (name, bytes)]?)
+}
+
+#[test]
+fn stores_in_memory(rt: HostRuntime) -> Result<(), Fail> {
+    let alloc = rt.alloc();
+    let mut store = MemoryStore::new(one_file(alloc)?, vec![in alloc; 3, 5]?);
+    assert!(rt; got(alloc, &mut store, "a", 3) == Ok(3));
+    assert!(rt; got(alloc, &mut store, "a", 2) == Err(GetFault::TooLong));
+    assert!(rt; got(alloc, &mut store, "a", 3) == Err(GetFault::Failed));
+    assert!(rt; got(alloc, &mut store, "b", 3) == Err(GetFault::Absent));
+    assert!(rt; store.put(alloc, "b", b"lost") == Err(PutFault::Failed));
+    assert!(rt; store.put(alloc, "b", b"two").is_ok());
+    assert!(rt; store.put(alloc, "a", b"three").is_ok());
+    assert!(rt; store.file("a").unwrap_or(b"") == b"three".as_slice());
+    assert!(rt; store.file("b").unwrap_or(b"") == b"two".as_slice());
+    Ok(())
+}
+
+#[test]
+fn a_sure_store(rt: HostRuntime) -> Result<(), Fail> {
+    let alloc = rt.alloc();
+    let mut store = SureStore::new(one_file(alloc)?);
+    assert_eq!(rt; store.put(alloc, "b", b""), Ok(()));
+    for (name, want) in [("a", Ok(3)), ("b", Ok(0)), ("c", Err(GetFault::Absent))] {
+        assert_eq!(rt; got(alloc, &mut store, name, 9), want, "{name}");
+    }
+    assert_eq!(rt; store.file("a").unwrap_or(b""), b"one".as_slice());
+    Ok(())
+}
+
+#[test]
+fn sinks_in_memory(rt: HostRuntime) -> Result<(), Fail> {
+    let alloc = rt.alloc();
+    let mut sink = MemorySink::new(alloc, 7, vec![in alloc; 2]?)?;
+    assert!(rt; write_all(&mut sink, b"abc").is_ok());
+    assert!(rt; write_all(&mut sink, b"lost").is_err());
+    assert!(rt; write_all(&mut sink, b"").is_ok());
+    assert!(rt; write_all(&mut sink, b"defgh").is_err());
+    assert_eq!(rt; sink.bytes(), b"abcdefg".as_slice());
+    assert!(rt; write_all(&mut SureSink, b"dropped").is_ok());
+    Ok(())
+}
+
+/// The answer to a call that gives four bytes and has room for three, and what stands in the room afterwards.
+fn answered<W: World>(world: &mut W, number: u32) -> (u32, [u8; 3])
+    requires { (number ≡ 63) ⊎ (number ≡ 64) ⊎ (number ≡ 278) }
+{
+    let mut room = [9; 3];
+    let call = Call {
+        number,
+        args: [0; 6],
+    };
+    let result = world.answer(&call, b"four", &mut room);
+    (result, room)
+}
+
+#[test]
+fn worlds_in_memory(rt: HostRuntime) -> Result<(), Fail> {
+    let alloc = rt.alloc();
+    let mut replies = Vec::new(alloc);
+    for (result, bytes) in [
+        (5, [1, 2, 3, 4, 5].as_slice()),
+        (5, &[1, 2]),
+        (5, &[1, 2]),
+        (0xffff_f001, &[1]),
+        (0xffff_f000, &[1]),
+    ] {
+        replies.push(Reply {
+            result,
+            bytes: Seq::from_vec(Vec::from_slice(alloc, bytes)?),
+        })?;
+    }
+    let mut world = MemoryWorld::new(replies);
+    for (number, result, room) in [
+        (READ, 3, [1, 2, 3]),
+        (GETRANDOM, 2, [1, 2, 9]),
+        (WRITE, 4, [9, 9, 9]),
+        (READ, 0xffff_f001, [9, 9, 9]),
+        (WRITE, 4, [9, 9, 9]),
+        (READ, FAILURE, [9, 9, 9]),
+    ] {
+        assert!(rt; number == READ || number == WRITE || number == GETRANDOM);
+        assert_eq!(rt; answered(&mut world, number), (result, room));
+    }
+    NoGate.claimed(0, 0);
+    Ok(())
 }

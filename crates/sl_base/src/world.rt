@@ -5,6 +5,21 @@ ghost use Rattle.std.specs.Prelude.{◌≡◌, ℕ, ◌≤◌, ◌^◌, List, Op
 use crate::call::Call;
 use crate::seq::Seq;
 
+/// The number of the call `read`.
+pub const READ: u32 = 63;
+
+/// The number of the call `write`.
+pub const WRITE: u32 = 64;
+
+/// The number of the call `getrandom`.
+pub const GETRANDOM: u32 = 278;
+
+/// The least result that says an error, which is error 4095.
+pub const LEAST_ERROR: u32 = 0xffff_f001;
+
+/// The outside failed: error 5, an error of input or output.
+pub const FAILURE: u32 = 0xffff_fffb;
+
 /// An answer of the outside to a read, a write or a call for random bytes, before it is cut to the call.
 #[derive(Debug, Drop)]
 pub struct Reply {
