@@ -1,13 +1,16 @@
 //! What no clause says: values from outside, and that calls succeed.
 
-ghost use Rattle.std.specs.Prelude.{◌≡◌, ◌⊎◌};
+ghost use Rattle.std.specs.Prelude.{◌≡◌, ◌+◌, ◌<◌, ◌⊎◌};
 
 use crate::{
     Call, FAILURE, GETRANDOM, Gate, GetFault, MemorySink, MemoryStore, MemoryWorld, NoGate,
-    PutFault, READ, Reply, Seq, Sink, SinkFailed, Store, SureSink, SureStore, WRITE, World,
+    PutFault, READ, Reply, Seq, Sink, SinkFailed, Steps, Store, SureSink, SureStore, WRITE, World,
     decimal_text, word_text, write_all,
 };
 use std::alloc::{AllocError, Global};
+use std::marker::Brand;
+use std::mem::size_of;
+use std::sync::ledger::{Blank, Ledger};
 use std::test::Fail;
 
 #[test]
@@ -125,4 +128,29 @@ fn worlds_in_memory(rt: HostRuntime) -> Result<(), Fail> {
     }
     NoGate.claimed(0, 0);
     Ok(())
+}
+
+/// Counts down to 0, a step each.
+fn count_down<L: Ledger>(from: u8, steps: &mut Steps<L>)
+    ensures { steps.new ≡ steps.old + from }
+{
+    for _ in 0..from {
+        steps.tick();
+    }
+}
+
+/// The same, on a new ledger.
+fn count_down_alone<L: Ledger>(from: u8, blank: Blank) -> u64
+    requires name { blank.name ≡ L.name }
+    requires parts { blank.parts ≡ L.parts }
+    requires some_parts { 0 < blank.parts }
+{
+    let mut steps = Steps::<L>::new(blank);
+    count_down(from, &mut steps);
+    size_of::<Steps<L>>() as u64
+}
+
+#[test]
+fn steps_take_no_bytes(rt: HostRuntime) {
+    assert!(rt; count_down_alone::<Brand>(3, Blank::new(1)) == 0);
 }
