@@ -1,0 +1,140 @@
+//! The names of registers and the mnemonics of operations.
+
+ghost use Rattle.std.specs.Prelude.{◌≡◌};
+ghost use Rattle.rv_text.specs.Text.{register_name, branch_name, load_name, store_name, immediate_name, shift_name, operation_name, multiply_name};
+
+use rv_decode::{
+    BranchOp, ImmediateOp, LoadOp, MultiplyOp, Register, RegisterOp, ShiftOp, StoreOp,
+};
+
+/// The name of a register in the calling convention.
+#[tactic(auto, unfolding(crate::specs::Text::register_name))]
+pub fn register(register: Register) -> &'static str
+    ensures { result.now ≡ register_name register }
+{
+    match register.value() {
+        0 => "zero",
+        1 => "ra",
+        2 => "sp",
+        3 => "gp",
+        4 => "tp",
+        5 => "t0",
+        6 => "t1",
+        7 => "t2",
+        8 => "s0",
+        9 => "s1",
+        10 => "a0",
+        11 => "a1",
+        12 => "a2",
+        13 => "a3",
+        14 => "a4",
+        15 => "a5",
+        16 => "a6",
+        17 => "a7",
+        18 => "s2",
+        19 => "s3",
+        20 => "s4",
+        21 => "s5",
+        22 => "s6",
+        23 => "s7",
+        24 => "s8",
+        25 => "s9",
+        26 => "s10",
+        27 => "s11",
+        28 => "t3",
+        29 => "t4",
+        30 => "t5",
+        31 => "t6",
+        _ => unreachable!(),
+    }
+}
+
+pub fn branch(op: BranchOp) -> &'static str
+    ensures { result.now ≡ branch_name op }
+{
+    match op {
+        BranchOp::Beq => "beq",
+        BranchOp::Bne => "bne",
+        BranchOp::Blt => "blt",
+        BranchOp::Bge => "bge",
+        BranchOp::Bltu => "bltu",
+        BranchOp::Bgeu => "bgeu",
+    }
+}
+
+pub fn load(op: LoadOp) -> &'static str
+    ensures { result.now ≡ load_name op }
+{
+    match op {
+        LoadOp::Lb => "lb",
+        LoadOp::Lh => "lh",
+        LoadOp::Lw => "lw",
+        LoadOp::Lbu => "lbu",
+        LoadOp::Lhu => "lhu",
+    }
+}
+
+pub fn store(op: StoreOp) -> &'static str
+    ensures { result.now ≡ store_name op }
+{
+    match op {
+        StoreOp::Sb => "sb",
+        StoreOp::Sh => "sh",
+        StoreOp::Sw => "sw",
+    }
+}
+
+pub fn immediate(op: ImmediateOp) -> &'static str
+    ensures { result.now ≡ immediate_name op }
+{
+    match op {
+        ImmediateOp::Addi => "addi",
+        ImmediateOp::Slti => "slti",
+        ImmediateOp::Sltiu => "sltiu",
+        ImmediateOp::Xori => "xori",
+        ImmediateOp::Ori => "ori",
+        ImmediateOp::Andi => "andi",
+    }
+}
+
+pub fn shift(op: ShiftOp) -> &'static str
+    ensures { result.now ≡ shift_name op }
+{
+    match op {
+        ShiftOp::Slli => "slli",
+        ShiftOp::Srli => "srli",
+        ShiftOp::Srai => "srai",
+    }
+}
+
+pub fn operation(op: RegisterOp) -> &'static str
+    ensures { result.now ≡ operation_name op }
+{
+    match op {
+        RegisterOp::Add => "add",
+        RegisterOp::Sub => "sub",
+        RegisterOp::Sll => "sll",
+        RegisterOp::Slt => "slt",
+        RegisterOp::Sltu => "sltu",
+        RegisterOp::Xor => "xor",
+        RegisterOp::Srl => "srl",
+        RegisterOp::Sra => "sra",
+        RegisterOp::Or => "or",
+        RegisterOp::And => "and",
+    }
+}
+
+pub fn multiply(op: MultiplyOp) -> &'static str
+    ensures { result.now ≡ multiply_name op }
+{
+    match op {
+        MultiplyOp::Mul => "mul",
+        MultiplyOp::Mulh => "mulh",
+        MultiplyOp::Mulhsu => "mulhsu",
+        MultiplyOp::Mulhu => "mulhu",
+        MultiplyOp::Div => "div",
+        MultiplyOp::Divu => "divu",
+        MultiplyOp::Rem => "rem",
+        MultiplyOp::Remu => "remu",
+    }
+}
