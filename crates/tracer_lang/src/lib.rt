@@ -1,0 +1,6 @@
+//! Tracers: what one leaves where it fires.
+#![tactic(auto)]
+
+mod record;
+
+pub use record::{Record, TracerEnd};
