@@ -1,0 +1,4 @@
+pub mod Opening
+pub mod Calls
+pub mod Run
+pub mod Breaks

@@ -1,0 +1,111 @@
+-- The opening state: a program as it is loaded, with its stack.
+use Rattle.std.specs.Prelude.{ℕ, zero, suc, ◌+◌, ◌-◌, ◌*◌, ◌/◌, ◌==◌, ◌&&◌, List, [], ◌∷◌, ◌++◌, length, map, min, max, sum_by, replicate, slice_set, nat_le, if◌then◌else◌}
+use Rattle.std.specs.List.{flat_map}
+use Rattle.std.specs.FinMap.{empty, insert, contains_key}
+use Rattle.sl_model.specs.declared.run_state.RunState.TheVariants.{Running}
+use Rattle.sl_model.specs.Pages.{Pages, set_bytes, low_bytes}
+use Rattle.sl_model.specs.State.{State, MEMORY_END}
+use Rattle.elf_image.specs.declared.image.Image.{Image}
+use Rattle.elf_image.specs.declared.image.Segment.{Segment}
+use Rattle.elf_image.specs.Flat.{FIRST_STACK_PAGE, STACK_PAGES, page_count}
+
+-- ---- memory
+
+abbrev pub zero_page : List ℕ
+zero_page = replicate 4096 0
+
+-- a page of zeros, where none is mapped yet
+abbrev pub map_page : Pages → ℕ → Pages
+map_page pages page = if contains_key pages page then pages else insert pages page zero_page
+
+-- the same for so many pages from one on
+unfoldable pub map_pages : Pages → ℕ → ℕ → Pages
+map_pages pages first zero = pages
+map_pages pages first (suc count) = map_pages (map_page pages first) (first + 1) count
+
+-- the pages that meet a segment are mapped, and its bytes stand at its start
+abbrev pub load_segment : Pages → Segment → Pages
+load_segment pages segment =
+  if segment.memsz == 0 then pages
+  else set_bytes (map_pages pages (segment.vaddr / 4096) (page_count segment.vaddr segment.memsz)) segment.vaddr segment.bytes
+
+unfoldable pub load_segments : Pages → List Segment → Pages
+load_segments pages [] = pages
+load_segments pages (segment ∷ segments) = load_segments (load_segment pages segment) segments
+
+-- ---- the stack, below its end at 0x80000000
+
+abbrev pub STACK_END : ℕ
+STACK_END = 0x80000000
+
+-- the least multiple of a size that is n or more
+abbrev pub round_up : ℕ → ℕ → ℕ
+round_up size n = (n + (size - 1)) / size * size
+
+-- the arguments, each with a zero byte behind it
+abbrev pub strings : List (List ℕ) → List ℕ
+strings args = flat_map (λ arg. arg ++ 0 ∷ []) args
+
+-- where they start
+abbrev pub strings_start : List (List ℕ) → ℕ
+strings_start args = STACK_END - round_up 16 (length (strings args))
+
+-- where each of them starts, the first at this address
+abbrev pub string_addresses : ℕ → List (List ℕ) → List ℕ
+string_addresses address [] = []
+string_addresses address (arg ∷ args) = address ∷ string_addresses (address + length arg + 1) args
+
+-- the words at the stack pointer: the number of arguments, their addresses, and four zeros, which end them, are the
+-- empty environment and the empty list behind it
+abbrev pub stack_words : List (List ℕ) → List ℕ
+stack_words args = length args ∷ (string_addresses (strings_start args) args ++ replicate 4 0)
+
+abbrev pub stack_pointer : List (List ℕ) → ℕ
+stack_pointer args = (strings_start args - 4 * (length args + 5)) / 16 * 16
+
+-- the stack with its contents
+abbrev pub load_stack : Pages → List (List ℕ) → Pages
+load_stack pages args = set_bytes (set_bytes (map_pages pages FIRST_STACK_PAGE STACK_PAGES) (strings_start args) (strings args)) (stack_pointer args) (flat_map (low_bytes 4) (stack_words args))
+
+-- ---- the heap
+
+-- the end of the highest segment that takes memory
+abbrev pub highest_end : List Segment → ℕ
+highest_end [] = 0
+highest_end (segment ∷ segments) = if segment.memsz == 0 then highest_end segments else max (segment.vaddr + segment.memsz) (highest_end segments)
+
+-- where the heap starts
+abbrev pub heap_start : Image → ℕ
+heap_start image = round_up 4096 (highest_end image.segments)
+
+-- what a heap must not pass: the stack, where it starts below it, and else the end of memory
+abbrev pub wall : ℕ → ℕ
+wall start = if nat_le start (FIRST_STACK_PAGE * 4096) then FIRST_STACK_PAGE * 4096 else MEMORY_END
+
+-- 16 MiB of heap, as far as there is room
+abbrev pub heap_limit : ℕ → ℕ
+heap_limit start = min (start + 0x1000000) (wall start)
+
+-- ---- the state
+
+abbrev pub opening_pages : Image → List (List ℕ) → Pages
+opening_pages image args = load_stack (load_segments empty image.segments) args
+
+-- all registers are 0 but the stack pointer, x2
+abbrev pub opening_registers : List (List ℕ) → List ℕ
+opening_registers args = slice_set (replicate 32 0) 2 (stack_pointer args)
+
+unfoldable pub opening : Image → List (List ℕ) → State
+opening image args =
+  record {
+    pc = image.entry;
+    x = opening_registers args;
+    pages = opening_pages image args;
+    brk = heap_start image;
+    brk_end = heap_start image;
+    next_call = 0;
+    status = Running;
+    count = 0;
+    brk_start = heap_start image;
+    heap_limit = heap_limit (heap_start image);
+  }

@@ -1,0 +1,50 @@
+-- The run of a recording from its first instruction.
+use Rattle.std.specs.Prelude.{ℕ, zero, suc, ◌+◌, List, Option, Some, None, slice_get, if◌then◌else◌}
+use Rattle.sl_model.specs.declared.run_state.RunState.{RunState}
+use Rattle.sl_model.specs.declared.run_state.RunState.TheVariants.{Running, Exited}
+use Rattle.sl_model.specs.State.{State}
+use Rattle.sl_model.specs.Step.{Next, Stepped, Called, Trapped, step}
+use Rattle.call_log.specs.declared.entry.CallEntry.{CallEntry}
+use Rattle.call_log.specs.declared.breaks.BreakKind.{BreakKind}
+use Rattle.call_log.specs.declared.breaks.BreakKind.TheVariants.{NoCall, CallDiffers, EarlyEnd}
+use Rattle.rec_format.specs.declared.recording.Recording.{Recording}
+use Rattle.replay.specs.Calls.{FieldDiff, call_of, call_diff, is_exit, exited, answered}
+
+-- what comes of the next instruction in a replay
+pub data Onward : Type 0 where
+  Goes : (state : State) → Onward
+  Breaks : (kind : BreakKind) → Onward
+
+-- a recorded call, where it does not differ
+abbrev pub matched : State → CallEntry → Option FieldDiff → Onward
+matched s entry None = Goes (answered s entry)
+matched s entry (Some diff) = Breaks (CallDiffers s.next_call diff.field diff.recorded diff.due)
+
+abbrev pub called : State → Option CallEntry → Onward
+called s None = Breaks (NoCall s.next_call)
+called s (Some entry) = matched s entry (call_diff s entry)
+
+-- an ECALL: a program exits by itself, and every other call has the next recorded answer
+abbrev pub call : Recording → State → Onward
+call rec s = if is_exit (call_of s) then Goes (exited s) else called s (slice_get rec.calls s.next_call)
+
+abbrev pub stepped : Recording → State → Next → Onward
+stepped rec s (Stepped state) = Goes state
+stepped rec s Called = call rec s
+stepped rec s (Trapped number) = Breaks (EarlyEnd rec.last.count)
+
+abbrev pub onward_in : Recording → State → RunState → Onward
+onward_in rec s Running = stepped rec s (step s)
+onward_in rec s (Exited code) = Breaks (EarlyEnd rec.last.count)
+
+-- the next instruction, below the recorded end
+unfoldable pub onward : Recording → State → Onward
+onward rec s = onward_in rec s s.status
+
+-- so many instructions on from a state, as far as none breaks
+unfoldable pub run_from : Recording → State → ℕ → Option State
+run_from rec s zero = Some s
+run_from rec s (suc n) = elim (onward rec s) [
+  | Goes t ↦ run_from rec t n
+  | Breaks kind ↦ None
+]

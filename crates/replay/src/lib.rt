@@ -1,0 +1,2 @@
+//! The run of a recorded program.
+#![tactic(auto)]
