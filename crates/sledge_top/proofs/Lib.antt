@@ -1,0 +1,4 @@
+mod Writing
+pub mod Joining
+mod Registers
+mod Fields

@@ -1,0 +1,6 @@
+pub mod Status
+pub mod Words
+pub mod Orders
+pub mod Answer
+pub mod Records
+pub mod Report

@@ -1,0 +1,12 @@
+-- The words and commands of the code, as those of the definitions.
+use Rattle.std.specs.Prelude.{ℕ, List, String, map, string_bytes}
+use Rattle.sledge_top.specs.declared.words.Order.{Order as Given}
+use Rattle.sledge_top.specs.declared.words.Order.TheVariants as given
+use Rattle.sledge_top.specs.Words.{Order, TraceAt}
+
+abbrev pub order_of : Given → Order
+order_of (given.TraceAt recording address) = TraceAt recording.now address
+
+-- the bytes of each word
+abbrev pub texts : {A : Type 0} → List (String A) → List (List ℕ)
+texts words = map string_bytes words

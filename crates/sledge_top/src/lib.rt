@@ -1,0 +1,13 @@
+//! The commands of Sledgehammer, over any store, world, outputs and gate.
+#![tactic(auto)]
+
+mod command;
+mod fault_line;
+mod report;
+mod status;
+mod store;
+mod words;
+
+pub use command::sledge;
+pub use fault_line::write_fault;
+pub use status::Status;
