@@ -78,16 +78,20 @@ pages_diff opened rec k s (number ∷ numbers) = page_diff opened rec k number (
 abbrev pub PAGE_NUMBERS : List ℕ
 PAGE_NUMBERS = range_with_len 0 (2 ^ 20)
 
--- The least part of a state that differs from checkpoint k: 0 pc, 1 to 31 the registers, 32 the break, 33 the mapped
--- end, 34 the index of the next call, and then the pages by rising number, 35 a byte and 36 whether it is mapped.
-unfoldable pub checkpoint_diff : Pages → Recording → ℕ → CheckpointData → State → Option PartDiff
-checkpoint_diff opened rec k checkpoint s =
+-- the least part that differs but for memory: 0 pc, 1 to 31 the registers, 32 the break, 33 the mapped end, 34 the index
+-- of the next call
+unfoldable pub machine_diff : CheckpointData → State → Option PartDiff
+machine_diff checkpoint s =
   part_diff 0 checkpoint.pc s.pc
   else_try parts_diff 1 checkpoint.x (drop 1 s.x)
   else_try part_diff 32 checkpoint.brk s.brk
   else_try part_diff 33 checkpoint.brk_end s.brk_end
   else_try part_diff 34 checkpoint.next_call s.next_call
-  else_try pages_diff opened rec k s PAGE_NUMBERS
+
+-- The least part of a state that differs from checkpoint k: those above, and then the pages by rising number, 35 a byte
+-- and 36 whether one is mapped.
+unfoldable pub checkpoint_diff : Pages → Recording → ℕ → CheckpointData → State → Option PartDiff
+checkpoint_diff opened rec k checkpoint s = machine_diff checkpoint s else_try pages_diff opened rec k s PAGE_NUMBERS
 
 abbrev pub as_checkpoint_break : ℕ → Option PartDiff → Option BreakKind
 as_checkpoint_break k None = None
@@ -139,17 +143,21 @@ abbrev pub at_count : State → Option BreakKind → Option Break
 at_count s None = None
 at_count s (Some kind) = Some (record { count = s.count; kind = kind })
 
+-- the break of a checkpoint, and else what follows
+abbrev pub listed_or : State → Option BreakKind → Option Break → Option Break
+listed_or s None follow = follow
+listed_or s (Some kind) follow = at_count s (Some kind)
+
+-- the break of the next instruction, and else what follows it
+abbrev pub break_after : State → (State → Option Break) → Onward → Option Break
+break_after s follow (Goes t) = follow t
+break_after s follow (Breaks kind) = at_count s (Some kind)
+
 -- The first break from a state on with so many instructions left before the recorded end. At each count the checkpoint
 -- is tried, and then the next instruction or, at the end, the end and the calls.
 unfoldable pub first_break_from : Pages → Recording → State → ℕ → Option Break
 first_break_from opened rec s zero = at_count s (checkpoint_break opened rec (length rec.checkpoints + 1) rec.last s else_try end_break rec s)
-first_break_from opened rec s (suc n) = elim (listed_break opened rec 1 rec.checkpoints s) [
-  | Some kind ↦ at_count s (Some kind)
-  | None ↦ elim (onward rec s) [
-    | Goes t ↦ first_break_from opened rec t n
-    | Breaks kind ↦ at_count s (Some kind)
-  ]
-]
+first_break_from opened rec s (suc n) = listed_or s (listed_break opened rec 1 rec.checkpoints s) (break_after s (λ t. first_break_from opened rec t n) (onward rec s))
 
 -- the first break of a recording that is replayed from this state
 abbrev pub first_break : Recording → State → Option Break

@@ -41,10 +41,12 @@ onward_in rec s (Exited code) = Breaks (EarlyEnd rec.last.count)
 unfoldable pub onward : Recording → State → Onward
 onward rec s = onward_in rec s s.status
 
+-- what follows the next instruction, where it does not break
+abbrev pub state_after : (State → Option State) → Onward → Option State
+state_after follow (Goes t) = follow t
+state_after follow (Breaks kind) = None
+
 -- so many instructions on from a state, as far as none breaks
 unfoldable pub run_from : Recording → State → ℕ → Option State
 run_from rec s zero = Some s
-run_from rec s (suc n) = elim (onward rec s) [
-  | Goes t ↦ run_from rec t n
-  | Breaks kind ↦ None
-]
+run_from rec s (suc n) = state_after (λ t. run_from rec t n) (onward rec s)

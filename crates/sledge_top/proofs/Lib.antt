@@ -2,3 +2,4 @@ mod Writing
 pub mod Joining
 mod Registers
 mod Fields
+mod Stepping

@@ -4,7 +4,8 @@ use Rattle.std.specs.List.{join_with_byte}
 use Rattle.std.proofs.lemmas.Bool.{ne_eqb}
 use Rattle.std.proofs.lemmas.List.{take_more, length-take-le, append-nil}
 use Rattle.sledge_top.specs.Report.{register_text, register_texts}
-use Rattle.sledge_top.proofs.Joining.{is_nil, join_push}
+use Rattle.sledge_top.specs.Small.{is_nil}
+use Rattle.sledge_top.proofs.Joining.{join_push}
 
 -- a register's text, where it is not 0
 abbrev last_text : ℕ → ℕ → List (List ℕ)

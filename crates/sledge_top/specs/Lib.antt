@@ -4,3 +4,4 @@ pub mod Orders
 pub mod Answer
 pub mod Records
 pub mod Report
+pub mod Small

@@ -24,14 +24,16 @@ at_end tracers (end.Trapped number) s = tracers s
 at_end tracers (end.Exited code) s = []
 at_end tracers end.Stopped s = []
 
+-- what follows the next instruction, where it does not break
+abbrev pub records_after : (State → List Record) → Onward → List Record
+records_after follow (Goes t) = follow t
+records_after follow (Breaks kind) = []
+
 -- the records from a state on, with so many instructions left before the recorded end: each tracepoint fires before
 -- the instruction at its place
 unfoldable pub records_from : Recording → Tracers → State → ℕ → List Record
 records_from rec tracers s zero = at_end tracers rec.end s
-records_from rec tracers s (suc n) = tracers s ++ (elim (onward rec s) [
-  | Goes t ↦ records_from rec tracers t n
-  | Breaks kind ↦ []
-])
+records_from rec tracers s (suc n) = tracers s ++ records_after (λ t. records_from rec tracers t n) (onward rec s)
 
 -- the records of a recording that is replayed from this state
 abbrev pub records : Recording → Tracers → State → List Record

@@ -2,6 +2,7 @@
 #![tactic(auto)]
 
 mod command;
+mod differ;
 mod fault_line;
 mod report;
 mod status;
