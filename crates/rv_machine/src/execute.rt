@@ -1,6 +1,6 @@
 //! What an instruction does.
 
-ghost use Rattle.std.specs.Prelude.{◌≡◌, ◌≢◌, ◌<◌, ◌^◌, slice_index};
+ghost use Rattle.std.specs.Prelude.{◌≡◌, ◌≢◌, ◌+◌, ◌<◌, ◌^◌, slice_index};
 ghost use Rattle.sl_model.specs.Marks.{MarksGoOn};
 ghost use Rattle.sl_model.specs.Pages.{Pages};
 ghost use Rattle.sl_model.specs.Step as next;
@@ -67,7 +67,8 @@ fn address(m: &Machine, rs1: Register, offset: Bits<12>) -> u32
 /// Goes to the next place, with a value in a register.
 fn advance(m: &mut Machine, rd: Register, value: u32) -> Outcome
     requires { m.old.count < 2 ^ 62 }
-    ensures { (pages : Pages) → WentOn (next.advance (state_of m.old pages) rd value) m.old pages result m.new pages }
+    ensures went_on { (pages : Pages) → WentOn (next.advance (state_of m.old pages) rd value) m.old pages result m.new pages }
+    ensures count { result ≡ Outcome.Stepped → m.new.count ≡ m.old.count + 1 }
 {
     let after = m.pc.wrapping_add(4);
     write_and_go_to(m, rd, value, after);
@@ -77,7 +78,8 @@ fn advance(m: &mut Machine, rd: Register, value: u32) -> Outcome
 /// Jumps, and leaves the place after the jump in a register.
 fn jump(m: &mut Machine, rd: Register, target: u32) -> Outcome
     requires { m.old.count < 2 ^ 62 }
-    ensures { (pages : Pages) → WentOn (next.jump (state_of m.old pages) rd target) m.old pages result m.new pages }
+    ensures went_on { (pages : Pages) → WentOn (next.jump (state_of m.old pages) rd target) m.old pages result m.new pages }
+    ensures count { result ≡ Outcome.Stepped → m.new.count ≡ m.old.count + 1 }
 {
     if target % 4 != 0 {
         return Outcome::Trap(MISALIGNED);
@@ -90,7 +92,8 @@ fn jump(m: &mut Machine, rd: Register, target: u32) -> Outcome
 /// Jumps, as a branch that is taken does.
 fn branch(m: &mut Machine, target: u32) -> Outcome
     requires { m.old.count < 2 ^ 62 }
-    ensures { (pages : Pages) → WentOn (next.branch (state_of m.old pages) target) m.old pages result m.new pages }
+    ensures went_on { (pages : Pages) → WentOn (next.branch (state_of m.old pages) target) m.old pages result m.new pages }
+    ensures count { result ≡ Outcome.Stepped → m.new.count ≡ m.old.count + 1 }
 {
     if target % 4 != 0 {
         return Outcome::Trap(MISALIGNED);
@@ -111,7 +114,8 @@ fn pass(m: &mut Machine)
 /// Loads into a register.
 fn load<B: Bus>(m: &mut Machine, bus: &B, op: LoadOp, rd: Register, addr: u32) -> Outcome
     requires { m.old.count < 2 ^ 62 }
-    ensures { let pages = B.pages bus.now in WentOn (next.load (state_of m.old pages) op rd addr) m.old pages result m.new pages }
+    ensures went_on { let pages = B.pages bus.now in WentOn (next.load (state_of m.old pages) op rd addr) m.old pages result m.new pages }
+    ensures count { result ≡ Outcome.Stepped → m.new.count ≡ m.old.count + 1 }
 {
     match bus.load(addr, arithmetic::load_width(op)) {
         None => Outcome::Trap(LOAD_FAULT),
@@ -126,6 +130,7 @@ fn store<B: Bus>(m: &mut Machine, bus: &mut B, op: StoreOp, addr: u32, value: u3
     ensures marking { B.is_marking bus.new ≡ B.is_marking bus.old }
     ensures marks { MarksGoOn (B.is_marking bus.old) (B.pages bus.old) (B.marked bus.old) (B.pages bus.new) (B.marked bus.new) }
     ensures kept { result ≢ Outcome.Stepped → B.marked bus.new ≡ B.marked bus.old }
+    ensures count { result ≡ Outcome.Stepped → m.new.count ≡ m.old.count + 1 }
 {
     if bus.store(addr, arithmetic::store_width(op), value) {
         pass(m);
@@ -143,6 +148,7 @@ pub fn execute<B: Bus>(m: &mut Machine, bus: &mut B, instr: Instr) -> Outcome
     ensures marking { B.is_marking bus.new ≡ B.is_marking bus.old }
     ensures marks { MarksGoOn (B.is_marking bus.old) (B.pages bus.old) (B.marked bus.old) (B.pages bus.new) (B.marked bus.new) }
     ensures kept { result ≢ Outcome.Stepped → B.marked bus.new ≡ B.marked bus.old }
+    ensures count { result ≡ Outcome.Stepped → m.new.count ≡ m.old.count + 1 }
 {
     match instr {
         Instr::Lui { rd, imm } => advance(m, rd, arithmetic::upper_word(imm)),

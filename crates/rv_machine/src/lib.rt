@@ -4,5 +4,7 @@
 mod arithmetic;
 mod execute;
 mod machine;
+mod stepping;
 
 pub use machine::{Machine, Outcome};
+pub use stepping::step;
