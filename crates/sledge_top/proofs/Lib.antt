@@ -2,4 +2,5 @@ mod Writing
 pub mod Joining
 mod Registers
 mod Fields
-mod Stepping
+pub mod Stepping
+mod UnderWay

@@ -4,6 +4,7 @@
 mod command;
 mod differ;
 mod fault_line;
+mod replaying;
 mod report;
 mod status;
 mod store;

@@ -1,0 +1,32 @@
+use Rattle.std.proofs.Common.{◌≡◌, true, false, refl, sym, ap, ◌∙◌}
+use Rattle.sl_model.specs.State.{State}
+use Rattle.sl_model.specs.Step.{Called, step}
+use Rattle.rv_machine.specs.Machine.{state_of}
+use Rattle.call_log.specs.declared.breaks.BreakKind.TheVariants.{NoCall, EarlyEnd}
+use Rattle.replay.specs.Calls.{call_of, is_exit, exited}
+use Rattle.replay.specs.Run.{onward, Goes}
+use Rattle.sledge_top.proofs.Stepping.{onward_stepped, onward_trapped, onward_exit, onward_call}
+use Rattle.sledge_top.proofs.replaying.run_one.Goals as goal
+
+pub returns-in-Stepped-clause-onward : goal.returns-in-Stepped-clause-onward
+returns-in-Stepped-clause-onward g c = onward_stepped _ _ _ c.requires.running c.in-Stepped.ensures.next
+
+pub returns-in-Trap-clause-onward : goal.returns-in-Trap-clause-onward
+returns-in-Trap-clause-onward g c =
+    (EarlyEnd c.args.rec.now.last.count, onward_trapped _ _ c.in-Trap.field-0 c.requires.running c.in-Trap.ensures.next.0)
+
+pub returns-then-not-is_exit-clause-onward : goal.returns-then-not-is_exit-clause-onward
+returns-then-not-is_exit-clause-onward g c =
+    let pages = g.B.Bus.pages c.args.bus.now in
+    let next = c.in-Call.ensures.next in
+    let other : is_exit (call_of (state_of c.args.m.now pages)) ≡ false = ap (λ m. is_exit (call_of (state_of m pages))) (sym next.1) ∙ sym (c.is_exit.ensures pages) ∙ cc in
+    (NoCall c.args.m.now.next_call, onward_call _ _ c.requires.calls c.requires.running next.0 other)
+
+pub returns-else-not-is_exit-clause-onward : goal.returns-else-not-is_exit-clause-onward
+returns-else-not-is_exit-clause-onward g c =
+    let pages = g.B.Bus.pages c.args.bus.now in
+    let next = c.in-Call.ensures.next in
+    let exits : is_exit (call_of (state_of c.args.m.now pages)) ≡ true = ap (λ m. is_exit (call_of (state_of m pages))) (sym next.1) ∙ sym (c.is_exit.ensures pages) ∙ cc in
+    let after : exited (state_of c.args.m.now pages) ≡ state_of c.exit.new.m (g.B.Bus.pages c.step.new.bus) =
+        ap (λ m. exited (state_of m pages)) (sym next.1) ∙ sym (c.exit.ensures.state pages) ∙ ap (state_of c.exit.new.m) (sym next.2) in
+    onward_exit _ _ c.requires.running next.0 exits ∙ ap Goes after
