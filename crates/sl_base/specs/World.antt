@@ -1,5 +1,5 @@
 -- What the outside answers to a system call, where its replies are told.
-use Rattle.std.specs.Prelude.{◌≡◌, ℕ, ◌-◌, ◌^◌, ◌≤◌, ◌⊎◌, Bool, List, [], ◌∷◌, ◌++◌, length, take, drop, min, Option, Some, None, ⊤, nat_le, ◌==◌, if◌then◌else◌}
+use Rattle.std.specs.Prelude.{◌≡◌, ℕ, ◌-◌, ◌^◌, ◌≤◌, ◌⊎◌, Bool, List, [], ◌∷◌, ◌++◌, length, take, drop, min, Option, Some, None, ⊤, nat_le, ◌==◌, if◌then◌else◌, slice_index}
 use Rattle.sl_base.specs.declared.call.Call.{Call}
 use Rattle.sl_base.specs.declared.world.Reply.{Reply}
 
@@ -13,6 +13,10 @@ write_number = 64
 abbrev pub getrandom_number : ℕ
 getrandom_number = 278
 
+-- register a0
+abbrev pub first_argument : Call → ℕ
+first_argument call = slice_index call.args 0
+
 -- a call that the outside answers
 abbrev pub IsAsked : Call → Type 0
 IsAsked call = (call.number ≡ read_number) ⊎ (call.number ≡ write_number) ⊎ (call.number ≡ getrandom_number)
@@ -24,6 +28,10 @@ error_result n = 2 ^ 32 - n
 -- error number 5: the outside failed
 abbrev pub failure : ℕ
 failure = error_result 5
+
+-- error number 9: there is no such descriptor
+abbrev pub no_descriptor : ℕ
+no_descriptor = error_result 9
 
 -- does a result say an error, of which the numbers go up to 4095
 abbrev pub is_error : ℕ → Bool
@@ -62,3 +70,10 @@ Answers None new call given old_room new_room result = ⊤
 Answers (Some []) new call given old_room new_room result = (new ≡ Some []) × (result ≡ failure) × (new_room ≡ old_room)
 Answers (Some (reply ∷ replies)) new call given old_room new_room result =
     (new ≡ Some replies) × ((result, new_room) ≡ cut reply call given old_room)
+
+-- The descriptor of a call, which is its first argument, is one that a program has from the start: 0 to read, 1 and 2 to write. Random bytes have none.
+abbrev pub HasDescriptor : Call → Type 0
+HasDescriptor call =
+    ((call.number ≡ read_number) × (first_argument call ≡ 0))
+    ⊎ ((call.number ≡ write_number) × ((first_argument call ≡ 1) ⊎ (first_argument call ≡ 2)))
+    ⊎ (call.number ≡ getrandom_number)

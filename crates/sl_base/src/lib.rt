@@ -4,6 +4,7 @@
 
 mod call;
 mod file_list;
+mod file_store;
 mod gate;
 mod memory_sink;
 mod memory_store;
@@ -12,6 +13,8 @@ mod planned_faults;
 mod refused;
 mod seq;
 mod sink;
+mod std_sink;
+mod std_world;
 mod steps;
 mod store;
 mod sure;
@@ -22,6 +25,7 @@ mod text;
 mod world;
 
 pub use call::Call;
+pub use file_store::FileStore;
 pub use gate::{Gate, NoGate};
 pub use memory_sink::MemorySink;
 pub use memory_store::MemoryStore;
@@ -31,6 +35,8 @@ pub use seq::Seq;
 pub use sink::{Sink, SinkFailed, write_all};
 pub use std::marker::Brand;
 pub use std::sync::ledger::{Blank, Ledger};
+pub use std_sink::StdSink;
+pub use std_world::StdWorld;
 pub use steps::Steps;
 pub use store::{GetFault, PutFault, Store};
 pub use sure::{SureSink, SureStore};

@@ -3,11 +3,12 @@
 ghost use Rattle.std.specs.Prelude.{◌≡◌, ◌+◌, ◌<◌, ◌⊎◌};
 
 use crate::{
-    Call, FAILURE, GETRANDOM, Gate, GetFault, MemorySink, MemoryStore, MemoryWorld, NoGate,
-    PutFault, READ, Reply, Seq, Sink, SinkFailed, Steps, Store, SureSink, SureStore, WRITE, World,
-    decimal_text, word_text, write_all,
+    Call, FAILURE, FileStore, GETRANDOM, Gate, GetFault, MemorySink, MemoryStore, MemoryWorld,
+    NoGate, PutFault, READ, Reply, Seq, Sink, SinkFailed, StdSink, StdWorld, Steps, Store,
+    SureSink, SureStore, WRITE, World, decimal_text, word_text, write_all,
 };
 use std::alloc::{AllocError, Global};
+use std::fs;
 use std::marker::Brand;
 use std::mem::size_of;
 use std::sync::ledger::{Blank, Ledger};
@@ -86,13 +87,13 @@ fn sinks_in_memory(rt: HostRuntime) -> Result<(), Fail> {
 }
 
 /// The answer to a call that gives four bytes and has room for three, and what stands in the room afterwards.
-fn answered<W: World>(world: &mut W, number: u32) -> (u32, [u8; 3])
+fn answered<W: World>(world: &mut W, number: u32, descriptor: u32) -> (u32, [u8; 3])
     requires { (number ≡ 63) ⊎ (number ≡ 64) ⊎ (number ≡ 278) }
 {
     let mut room = [9; 3];
     let call = Call {
         number,
-        args: [0; 6],
+        args: [descriptor, 0, 0, 0, 0, 0],
     };
     let result = world.answer(&call, b"four", &mut room);
     (result, room)
@@ -124,7 +125,7 @@ fn worlds_in_memory(rt: HostRuntime) -> Result<(), Fail> {
         (READ, FAILURE, [9, 9, 9]),
     ] {
         assert!(rt; number == READ || number == WRITE || number == GETRANDOM);
-        assert_eq!(rt; answered(&mut world, number), (result, room));
+        assert_eq!(rt; answered(&mut world, number, 0), (result, room));
     }
     NoGate.claimed(0, 0);
     Ok(())
@@ -153,4 +154,55 @@ fn count_down_alone<L: Ledger>(from: u8, blank: Blank) -> u64
 #[test]
 fn steps_take_no_bytes(rt: HostRuntime) {
     assert!(rt; count_down_alone::<Brand>(3, Blank::new(1)) == 0);
+}
+
+#[test]
+fn files_on_a_disk(rt: HostRuntime) -> Result<(), Fail> {
+    let alloc = rt.alloc();
+    let _ = fs::remove_dir_all(&rt, "sl_base_test");
+    fs::create_dir(&rt, "sl_base_test")?;
+    let mut store = FileStore::new(&rt);
+    assert!(rt; got(alloc, &mut store, "sl_base_test/a", 5) == Err(GetFault::Absent));
+    assert!(rt; store.put(alloc, "sl_base_test/a", b"one").is_ok());
+    assert!(rt; store.put(alloc, "sl_base_test/a", b"three").is_ok());
+    assert!(rt; got(alloc, &mut store, "sl_base_test/a", 4) == Err(GetFault::TooLong));
+    assert!(rt; got(alloc, &mut store, "sl_base_test", 5) == Err(GetFault::Failed));
+    assert!(rt; store.put(alloc, "sl_base_test", b"") == Err(PutFault::Failed));
+    assert!(rt; store.put(alloc, "sl_base_test/none/a", b"") == Err(PutFault::Failed));
+    assert!(rt; fs::read(&rt, "sl_base_test/a")?.as_slice() == b"three".as_slice());
+    assert!(rt; fs::read_dir(&rt, "sl_base_test")?.count() == 1);
+    fs::remove_dir_all(&rt, "sl_base_test")?;
+    Ok(())
+}
+
+#[test]
+fn the_outside_of_a_process(rt: HostRuntime) -> Result<(), Fail> {
+    let alloc = rt.alloc();
+    let mut output = Vec::new(alloc);
+    let mut error_room = [0; 5];
+    let mut errors = error_room.as_mut_slice();
+    let mut world = StdWorld::new(alloc, &rt, b"12345".as_slice(), &mut output, &mut errors)?;
+    for (number, descriptor, result, room) in [
+        (READ, 0, 3, [49, 50, 51]),
+        (READ, 0, 2, [52, 53, 9]),
+        (READ, 0, 0, [9, 9, 9]),
+        (READ, 1, 0xffff_fff7, [9, 9, 9]),
+        (WRITE, 0, 0xffff_fff7, [9, 9, 9]),
+        (WRITE, 1, 4, [9, 9, 9]),
+        (WRITE, 2, 4, [9, 9, 9]),
+        (WRITE, 2, FAILURE, [9, 9, 9]),
+    ] {
+        assert!(rt; number == READ || number == WRITE || number == GETRANDOM);
+        assert_eq!(rt; answered(&mut world, number, descriptor), (result, room));
+    }
+    assert!(rt; answered(&mut world, GETRANDOM, 0).0 == 3);
+    drop(world);
+    assert!(rt; output.as_slice() == b"four".as_slice());
+    Ok(())
+}
+
+#[test]
+fn standard_output(rt: HostRuntime) {
+    assert!(rt; write_all(&mut StdSink::new(rt.stdout()), b"a line\n").is_ok());
+    assert!(rt; write_all(&mut StdSink::new([0; 3].as_mut_slice()), b"four").is_err());
 }

@@ -1,0 +1,126 @@
+//! The outside as the process has it: standard input, output and error, and the system's random bytes.
+
+ghost use Rattle.std.specs.Prelude.{◌≡◌, ◌≢◌, ◌≤◌, IfOk, IfSome, IfNone, length, drop};
+ghost use Rattle.sl_base.specs.Faults.{Rose};
+ghost use Rattle.sl_base.specs.World.{IsAsked, IsAnswer, KeepsRest, HasDescriptor, failure, no_descriptor};
+
+use crate::call::Call;
+use crate::refused::Memory;
+use crate::world::{FAILURE, READ, WRITE, World};
+use std::alloc::Global;
+use std::fs;
+use std::io::{Read, Write};
+use std::marker::Model;
+use std::rt::Files;
+
+/// The most bytes that a call takes.
+const MOST_BYTES: usize = 65_536;
+
+/// Error 9: there is no such descriptor.
+const NO_DESCRIPTOR: u32 = 0xffff_fff7;
+
+/// The world of a process. Descriptor 0 is read from its input by one read, which may give fewer bytes than there is
+/// room. 1 and 2 are written to its output and error output, whole. Random bytes are read from `/dev/urandom`. It
+/// counts each failure, and tells no replies.
+#[derive(Drop)]
+pub struct StdWorld<'a, F, I, O, E> {
+    files: &'a F,
+    input: I,
+    output: O,
+    error_output: E,
+    buffer: Vec<u8>,
+    failures: u64,
+}
+
+impl<'a, F, I, O, E> Model for StdWorld<'a, F, I, O, E> {
+    ghost use Rattle.std.specs.Prelude.{ℕ};
+
+    /// How often the outside has failed.
+    ghost Value = { ℕ };
+
+    ghost view = { λ world. world.failures };
+}
+
+impl<'a, F, I, O, E> StdWorld<'a, F, I, O, E> {
+    /// The world over these, as `rt.stdin()`, `rt.stdout()` and `rt.stderr()`.
+    pub fn new(
+        alloc: Global,
+        files: &'a F,
+        input: I,
+        output: O,
+        error_output: E,
+    ) -> Result<StdWorld<'a, F, I, O, E>, Memory>
+    where
+        I: Drop,
+        O: Drop,
+        E: Drop,
+        ensures { IfOk result (λ world. world ≡ 0) }
+    {
+        Ok(StdWorld {
+            files,
+            input,
+            output,
+            error_output,
+            buffer: vec![in alloc; 0; MOST_BYTES]?,
+            failures: 0,
+        })
+    }
+}
+
+impl<F: Files, I: Read, O: Write, E: Write> World for StdWorld<'_, F, I, O, E> {
+    ghost use Rattle.std.specs.Prelude.{None};
+
+    ghost replies = { λ _. None };
+
+    fn answer(&mut self, call: &Call, give: &[u8], take: &mut [u8]) -> u32
+        requires asked { IsAsked call.now }
+        requires give { length give.now ≤ 65536 }
+        requires take { length take.old ≤ 65536 }
+        ensures range { IsAnswer call.now (length give.now) (length take.old) result }
+        ensures rest { KeepsRest call.now result take.old take.new }
+
+        // It doesn't give up by itself, and only other descriptors are unknown.
+        ensures failed { result ≡ failure → Rose self.old self.new }
+        ensures known { HasDescriptor call.now → result ≢ no_descriptor }
+        ensures unknown { ¬ HasDescriptor call.now → result ≡ no_descriptor }
+    {
+        let count = match (call.number, call.args[0]) {
+            (READ, 0) => read_some(&mut self.input, &mut self.buffer, take),
+            (WRITE, 1) => write_whole(&mut self.output, give),
+            (WRITE, 2) => write_whole(&mut self.error_output, give),
+            (READ | WRITE, _) => return NO_DESCRIPTOR,
+            _ => match fs::open(self.files, "/dev/urandom") {
+                Ok(mut random) => read_some(&mut random, &mut self.buffer, take),
+                Err(_) => None,
+            },
+        };
+        match count {
+            Some(count) => count,
+            None => {
+                self.failures = self.failures.saturating_add(1);
+                FAILURE
+            }
+        }
+    }
+}
+
+/// One read. The bytes go through the buffer, since a reader may spoil its room past what it says.
+fn read_some<R: Read>(reader: &mut R, buffer: &mut [u8], take: &mut [u8]) -> Option<u32>
+    requires { length take.old ≤ 65536 }
+    ensures count { IfSome result (λ count. count ≤ length take.old) }
+    ensures rest { IfSome result (λ count. drop count take.new ≡ drop count take.old) }
+    ensures none { IfNone result (take.new ≡ take.old) }
+{
+    let room = take.len().min(buffer.len());
+    let count = reader.read(&mut buffer[..room]).ok()?;
+    take[..count].copy_from_slice(&buffer[..count]);
+    Some(count as u32)
+}
+
+fn write_whole<W: Write>(writer: &mut W, bytes: &[u8]) -> Option<u32>
+    requires { length bytes.now ≤ 65536 }
+    ensures { IfSome result (λ count. count ≡ length bytes.now) }
+{
+    writer.write_all(bytes).ok()?;
+    Some(bytes.len() as u32)
+}
