@@ -1,7 +1,7 @@
 use crate::seq::Seq;
 
 /// A name in a program, and what it stands for.
-#[derive(Debug, Drop)]
+#[derive(Debug, PartialEq, Eq, Drop)]
 pub struct Symbol {
     /// The name's bytes.
     pub name: Seq<u8>,

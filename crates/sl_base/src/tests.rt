@@ -3,9 +3,9 @@
 ghost use Rattle.std.specs.Prelude.{◌≡◌, ◌+◌, ◌<◌, ◌⊎◌};
 
 use crate::{
-    Call, FAILURE, FileStore, GETRANDOM, Gate, GetFault, MemorySink, MemoryStore, MemoryWorld,
-    NoGate, PutFault, READ, Reply, Seq, Sink, SinkFailed, StdSink, StdWorld, Steps, Store,
-    SureSink, SureStore, WRITE, World, decimal_text, word_text, write_all,
+    Call, FAILURE, FileStore, GETRANDOM, Gate, GetFault, Memory, MemorySink, MemoryStore,
+    MemoryWorld, NoGate, PutFault, READ, Refused, Reply, Seq, Sink, SinkFailed, StdSink, StdWorld,
+    Steps, Store, SureSink, SureStore, WRITE, World, decimal_text, word_text, write_all,
 };
 use std::alloc::{AllocError, Global};
 use std::fs;
@@ -32,6 +32,39 @@ fn numbers_as_text(rt: HostRuntime) {
     ] {
         assert_eq!(rt; word_text(n).as_bytes(), want.as_bytes());
     }
+}
+
+#[test]
+fn lists(rt: HostRuntime) -> Result<(), Fail> {
+    let alloc = rt.alloc();
+    let mut items = Seq::new(alloc);
+    assert!(rt; items.is_empty());
+    items.push(3u8)?;
+    assert!(rt; items.len() == 1 && items.as_slice() == [3].as_slice());
+    assert!(rt; items == Seq::from_vec(vec![in alloc; 3]?));
+    assert!(rt; items != Seq::from_vec(vec![in alloc; 4]?));
+    assert!(rt; items.into_vec().len() == 1);
+    Ok(())
+}
+
+/// A list of one number, by the errors of std that turn into this crate's.
+fn one_number(alloc: Global) -> Result<Vec<u8>, Memory> {
+    let mut items = Vec::with_capacity(alloc, 1)?;
+    items.push(1)?;
+    Ok(items)
+}
+
+fn two_numbers(alloc: Global) -> Result<Vec<u8>, Refused<u8>> {
+    let mut items = one_number(alloc)?;
+    items.extend_from_slice(&[2])?;
+    items.push(3)?;
+    items.pop().ok_or(Refused::Fault(3))?;
+    Ok(items)
+}
+
+#[test]
+fn refusals(rt: HostRuntime) {
+    assert!(rt; two_numbers(rt.alloc()).is_ok_and(|items| items.len() == 2));
 }
 
 /// How many bytes a store gives.

@@ -21,7 +21,7 @@ pub const LEAST_ERROR: u32 = 0xffff_f001;
 pub const FAILURE: u32 = 0xffff_fffb;
 
 /// An answer of the outside to a read, a write or a call for random bytes, before it is cut to the call.
-#[derive(Debug, Drop)]
+#[derive(Debug, PartialEq, Eq, Drop)]
 pub struct Reply {
     /// How many bytes were read or written, or 2^32 - n for error number n, from 1 to 4095.
     pub result: u32,
