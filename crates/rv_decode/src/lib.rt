@@ -7,6 +7,8 @@ mod fields;
 mod formats;
 mod opcodes;
 mod operations;
+#[cfg(test)]
+mod tests;
 
 pub use decoding::decode;
 pub use encoding::encode;

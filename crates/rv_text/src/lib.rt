@@ -3,6 +3,8 @@
 
 mod names;
 mod numbers;
+#[cfg(test)]
+mod tests;
 mod text;
 
 pub use text::print_instr;
