@@ -1,3 +1,9 @@
+pub mod CallLaws
+pub mod CheckpointLaws
+pub mod Fields
+pub mod Fronts
 pub mod Items
+pub mod ItemLaws
 pub mod LastListing
+pub mod RecordingLaws
 pub mod Sums

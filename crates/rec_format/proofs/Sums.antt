@@ -2,7 +2,7 @@
 use Rattle.std.proofs.Common.{◌≡◌, ℕ, zero, suc, ◌+◌, List, [], ◌∷◌, ◌++◌, length, get_or, Option, Some, refl, ap, ◌∙◌, arith}
 use Rattle.std.proofs.lemmas.List.{append-nil}
 use Rattle.std.proofs.lemmas.List.Concat.{flat_map-append}
-use Rattle.std.proofs.lemmas.List.Sums.{sum_by_push}
+use Rattle.std.proofs.lemmas.List.Sums.{sum_by_push, sum_by-append}
 use Rattle.rec_format.specs.declared.recording.ListedPage.{ListedPage}
 use Rattle.rec_format.specs.declared.recording.CheckpointData.{CheckpointData}
 use Rattle.rec_format.specs.Rules.{args_size, last_or, listings}
@@ -23,3 +23,9 @@ last_or-at before number (y ∷ z ∷ zs) zero x len is = absurd (omega arith)
 
 pub listings-push : (checkpoints : List CheckpointData) (checkpoint : CheckpointData) → listings (checkpoints ++ checkpoint ∷ []) ≡ listings checkpoints ++ checkpoint.pages
 listings-push checkpoints checkpoint = flat_map-append (λ (c : CheckpointData). c.pages) checkpoints (checkpoint ∷ []) ∙ ap (λ (pages : List ListedPage). listings checkpoints ++ pages) (append-nil checkpoint.pages)
+
+pub args_size-append : (args others : List (List ℕ)) → args_size (args ++ others) ≡ args_size args + args_size others
+args_size-append args others = sum_by-append (λ (arg : List ℕ). length arg + 1) args others
+
+pub listings-append : (checkpoints others : List CheckpointData) → listings (checkpoints ++ others) ≡ listings checkpoints ++ listings others
+listings-append checkpoints others = flat_map-append (λ (c : CheckpointData). c.pages) checkpoints others

@@ -43,9 +43,9 @@ fn recording(alloc: Global, cursor: &mut Cursor<'_>) -> Result<Recording, Refuse
     })
 }
 
-/// The recording that the bytes spell, or their first fault.
+/// Reads all of the bytes.
 #[tactic(auto, unfolding(crate::specs::Reading::reading))]
-pub fn read_recording(alloc: Global, bytes: &[u8]) -> Result<Recording, Refused<RecFault>>
+fn whole(alloc: Global, bytes: &[u8]) -> Result<Recording, Refused<RecFault>>
     ensures { Tells result (reading bytes.now) }
 {
     if bytes.len() as u64 > MOST_BYTES {
@@ -57,4 +57,22 @@ pub fn read_recording(alloc: Global, bytes: &[u8]) -> Result<Recording, Refused<
         return Err(refused(cursor.place(), RecCause::Trailing));
     }
     Ok(recording)
+}
+
+/// The recording that the bytes spell, or their first fault.
+///
+/// # Errors
+///
+/// The first rule that the bytes break, going from left to right, with the place of its field; or want of memory.
+pub fn read_recording(alloc: Global, bytes: &[u8]) -> Result<Recording, Refused<RecFault>>
+    // What is read is spelled so and meets the rules.
+    ensures found { IfOk result (IsRecording bytes.now) }
+
+    // What is spelled so and meets the rules is read, unless memory runs out.
+    ensures only { (rec : Recording) → IsRecording bytes.now rec → Tells result (Ok rec) }
+
+    // Which fault it is.
+    ensures exact { Tells result (reading bytes.now) }
+{
+    whole(alloc, bytes)
 }
