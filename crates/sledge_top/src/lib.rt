@@ -13,3 +13,6 @@ mod words;
 pub use command::sledge;
 pub use fault_line::write_fault;
 pub use status::Status;
+
+#[cfg(test)]
+mod tests;
