@@ -5,5 +5,6 @@ pub mod Fronts
 pub mod Items
 pub mod ItemLaws
 pub mod LastListing
+pub mod Lengths
 pub mod RecordingLaws
 pub mod Sums

@@ -3,3 +3,4 @@ pub mod Rules
 pub mod Listings
 pub mod Spelling
 pub mod Reading
+pub mod Writing

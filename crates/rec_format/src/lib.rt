@@ -9,10 +9,13 @@ mod limits;
 mod listings;
 mod reading;
 mod recording;
+mod size;
+mod writing;
 
 pub use fault::{RecCause, RecFault, TooLarge};
-pub use reading::read_recording;
+pub use reading::{read_recording, spelled_apart};
 pub use recording::{CheckpointData, ListedPage, Recording};
+pub use writing::write_recording;
 
 #[cfg(test)]
 mod tests;

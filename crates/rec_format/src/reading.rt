@@ -1,6 +1,6 @@
 //! Reads recordings.
 
-ghost use Rattle.std.specs.Prelude.{◌≡◌, ◌≤◌, ◌^◌, length, IfOk, Ok};
+ghost use Rattle.std.specs.Prelude.{◌≡◌, ℕ, List, IfOk, Ok};
 ghost use Rattle.rec_format.specs.Spelling.{IsRecording};
 ghost use Rattle.rec_format.specs.Reading.{Gives, Tells, recording_at, reading};
 ghost use Rattle.rec_format.specs.declared.recording.Recording.{Recording};
@@ -76,3 +76,8 @@ pub fn read_recording(alloc: Global, bytes: &[u8]) -> Result<Recording, Refused<
 {
     whole(alloc, bytes)
 }
+
+/// A law: no two recordings have one spelling.
+pub fn spelled_apart()
+    ensures { (bytes : List ℕ) (a b : Recording) → IsRecording bytes a → IsRecording bytes b → a ≡ b }
+{}
