@@ -40,8 +40,8 @@ one_segment address bytes = record { entry = address; segments = record { vaddr 
 -- the image of bytes that are loaded at an address, or its fault
 unfoldable pub flat_image : ℕ → List ℕ → Result Image ImageFault
 flat_image address bytes =
-  if length bytes == 0 then flat_fault cause.SegmentRange
-  else if nat_lt MEMORY_END (address + length bytes) then flat_fault cause.SegmentRange
-  else if nat_lt MOST_PAGES (page_count address (length bytes) + STACK_PAGES) then flat_fault cause.SegmentRange
-  else if meets_stack address (length bytes) then flat_fault cause.Overlap
-  else Ok (one_segment address bytes)
+    if length bytes == 0 then flat_fault cause.SegmentRange
+    else if nat_lt MEMORY_END (address + length bytes) then flat_fault cause.SegmentRange
+    else if nat_lt MOST_PAGES (page_count address (length bytes) + STACK_PAGES) then flat_fault cause.SegmentRange
+    else if meets_stack address (length bytes) then flat_fault cause.Overlap
+    else Ok (one_segment address bytes)

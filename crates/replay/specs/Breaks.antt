@@ -82,11 +82,11 @@ PAGE_NUMBERS = range_with_len 0 (2 ^ 20)
 -- of the next call
 unfoldable pub machine_diff : CheckpointData → State → Option PartDiff
 machine_diff checkpoint s =
-  part_diff 0 checkpoint.pc s.pc
-  else_try parts_diff 1 checkpoint.x (drop 1 s.x)
-  else_try part_diff 32 checkpoint.brk s.brk
-  else_try part_diff 33 checkpoint.brk_end s.brk_end
-  else_try part_diff 34 checkpoint.next_call s.next_call
+    part_diff 0 checkpoint.pc s.pc
+    else_try parts_diff 1 checkpoint.x (drop 1 s.x)
+    else_try part_diff 32 checkpoint.brk s.brk
+    else_try part_diff 33 checkpoint.brk_end s.brk_end
+    else_try part_diff 34 checkpoint.next_call s.next_call
 
 -- The least part of a state that differs from checkpoint k: those above, and then the pages by rising number, 35 a byte
 -- and 36 whether one is mapped.
@@ -104,8 +104,8 @@ checkpoint_break opened rec k checkpoint s = as_checkpoint_break k (checkpoint_d
 abbrev pub listed_break : Pages → Recording → ℕ → List CheckpointData → State → Option BreakKind
 listed_break opened rec k [] s = None
 listed_break opened rec k (checkpoint ∷ checkpoints) s =
-  (if checkpoint.count == s.count then checkpoint_break opened rec k checkpoint s else None)
-  else_try listed_break opened rec (k + 1) checkpoints s
+    (if checkpoint.count == s.count then checkpoint_break opened rec k checkpoint s else None)
+    else_try listed_break opened rec (k + 1) checkpoints s
 
 -- ---- the end
 

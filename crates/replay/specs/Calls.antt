@@ -59,19 +59,19 @@ brk_mapped_end s address = if is_break s address then max s.brk_end (round_up 40
 -- the state after it: zeros are mapped up to the break
 abbrev pub brk_done : State → ℕ → State
 brk_done s address =
-  record s {
-    brk = brk_answer s address;
-    brk_end = brk_mapped_end s address;
-    pages = map_pages s.pages (s.brk_end / 4096) (brk_mapped_end s address / 4096 - s.brk_end / 4096);
-  }
+    record s {
+      brk = brk_answer s address;
+      brk_end = brk_mapped_end s address;
+      pages = map_pages s.pages (s.brk_end / 4096) (brk_mapped_end s address / 4096 - s.brk_end / 4096);
+    }
 
 -- ---- what a recorded call has to be
 
 -- the result that the machine decides, and None where it is the outside's
 abbrev pub fixed_result : State → Call → Option ℕ
 fixed_result s call =
-  if is_outside call then (if is_some (bytes_at s.pages (buffer call) (room call)) then None else Some (error_result 14))
-  else (if call.number == brk_number then Some (brk_answer s (arg call 0)) else Some (error_result 38))
+    if is_outside call then (if is_some (bytes_at s.pages (buffer call) (room call)) then None else Some (error_result 14))
+    else (if call.number == brk_number then Some (brk_answer s (arg call 0)) else Some (error_result 38))
 
 -- may the outside have answered so to a call with this room
 abbrev pub is_answer : ℕ → ℕ → Bool
@@ -84,8 +84,8 @@ given s call = if call.number == write_number && not (is_some (fixed_result s ca
 -- how many data bytes are due with a result: those of a write, and as many as were read
 abbrev pub due_length : State → Call → ℕ → ℕ
 due_length s call result =
-  if is_some (fixed_result s call) then 0
-  else (if call.number == write_number then room call else (if is_error result then 0 else result))
+    if is_some (fixed_result s call) then 0
+    else (if call.number == write_number then room call else (if is_error result then 0 else result))
 
 -- the result that is due in place of one that can't be
 abbrev pub due_result : State → Call → ℕ → ℕ
@@ -120,12 +120,12 @@ bytes_diff _ _ = None
 -- 8 the length of the data, 9 the data of a write.
 abbrev pub call_diff : State → CallEntry → Option FieldDiff
 call_diff s entry =
-  let call = call_of s in
-  field_diff 0 entry.call.number call.number
-  else_try fields_diff 1 entry.call.args call.args
-  else_try field_diff 7 entry.result (due_result s call entry.result)
-  else_try field_diff 8 (length entry.bytes) (due_length s call entry.result)
-  else_try (if call.number == write_number then bytes_diff entry.bytes (given s call) else None)
+    let call = call_of s in
+    field_diff 0 entry.call.number call.number
+    else_try fields_diff 1 entry.call.args call.args
+    else_try field_diff 7 entry.result (due_result s call entry.result)
+    else_try field_diff 8 (length entry.bytes) (due_length s call entry.result)
+    else_try (if call.number == write_number then bytes_diff entry.bytes (given s call) else None)
 
 -- ---- the state after a call
 
@@ -139,11 +139,11 @@ data_done s call bytes = if call.number == write_number then s else record s { p
 -- what a call changes beside a0
 abbrev pub call_done : State → Call → List ℕ → State
 call_done s call bytes =
-  if is_outside call then data_done s call bytes
-  else (if call.number == brk_number then brk_done s (arg call 0) else s)
+    if is_outside call then data_done s call bytes
+    else (if call.number == brk_number then brk_done s (arg call 0) else s)
 
 -- the state after a recorded call that does not differ
 abbrev pub answered : State → CallEntry → State
 answered s entry =
-  let t = gone_to (put_register (call_done s (call_of s) entry.bytes) 10 entry.result) (after s) in
-  record t { next_call = s.next_call + 1 }
+    let t = gone_to (put_register (call_done s (call_of s) entry.bytes) 10 entry.result) (after s) in
+    record t { next_call = s.next_call + 1 }

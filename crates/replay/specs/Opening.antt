@@ -26,8 +26,8 @@ map_pages pages first (suc count) = map_pages (map_page pages first) (first + 1)
 -- the pages that meet a segment are mapped, and its bytes stand at its start
 abbrev pub load_segment : Pages → Segment → Pages
 load_segment pages segment =
-  if segment.memsz == 0 then pages
-  else set_bytes (map_pages pages (segment.vaddr / 4096) (page_count segment.vaddr segment.memsz)) segment.vaddr segment.bytes
+    if segment.memsz == 0 then pages
+    else set_bytes (map_pages pages (segment.vaddr / 4096) (page_count segment.vaddr segment.memsz)) segment.vaddr segment.bytes
 
 unfoldable pub load_segments : Pages → List Segment → Pages
 load_segments pages [] = pages
@@ -97,15 +97,15 @@ opening_registers args = slice_set (replicate 32 0) 2 (stack_pointer args)
 
 unfoldable pub opening : Image → List (List ℕ) → State
 opening image args =
-  record {
-    pc = image.entry;
-    x = opening_registers args;
-    pages = opening_pages image args;
-    brk = heap_start image;
-    brk_end = heap_start image;
-    next_call = 0;
-    status = Running;
-    count = 0;
-    brk_start = heap_start image;
-    heap_limit = heap_limit (heap_start image);
-  }
+    record {
+      pc = image.entry;
+      x = opening_registers args;
+      pages = opening_pages image args;
+      brk = heap_start image;
+      brk_end = heap_start image;
+      next_call = 0;
+      status = Running;
+      count = 0;
+      brk_start = heap_start image;
+      heap_limit = heap_limit (heap_start image);
+    }

@@ -16,10 +16,10 @@ pub MarksGoOn-then : (is_marking : Bool) (first : Pages) (marked₁ : List ℕ) 
 MarksGoOn-then is_marking first marked₁ second marked₂ third marked₃ one two = record {
   keeps = (one.keeps.0 ++ two.keeps.0, two.keeps.1 ∙ ap (λ ps. ps ++ two.keeps.0) one.keeps.1 ∙ append_assoc marked₁ one.keeps.0 two.keeps.0);
   marks = λ marking page below. ⊎_elim
-    (λ (same : get third page ≡ get second page). ⊎_elim
+      (λ (same : get third page ≡ get second page). ⊎_elim
       (λ (still : get second page ≡ get first page). inl (same ∙ still))
       (λ (was : Contains marked₂ page). inr (rw two.keeps.1 (Contains-append_left marked₂ two.keeps.0 page was)))
       (one.marks marking page below))
-    (λ (now : Contains marked₃ page). inr now)
-    (two.marks marking page below)
+      (λ (now : Contains marked₃ page). inr now)
+      (two.marks marking page below);
 }

@@ -57,7 +57,7 @@ set_bytes-in_page pages number offset (b ∷ bs) page found within =
     let inside : offset < 4096 = omega arith in
     let stands : get (insert pages number (slice_set page offset b)) number ≡ Some (slice_set page offset b) = grind (arith, gets, common_steps) in
     rw (set_byte-in_page pages number offset b page found inside, next, set_bytes-in_page (insert pages number (slice_set page offset b)) number (offset + 1) bs (slice_set page offset b) stands (omega arith))
-      (insert-insert pages number _ _)
+    (insert-insert pages number _ _)
 
 -- ---- over several pages
 

@@ -37,10 +37,11 @@ pub told_some : (old out new xs : List ℕ) (first : Bool) (i v : ℕ) → i < l
 told_some old out new xs first i v lt is some told is-first step =
     let texts = register_texts 0 (take i xs) in
     let text = register_text i v in
-    let more : register_texts 0 (take (i + 1) xs) ≡ texts ++ text ∷ [] = texts_more xs i v lt is ∙ ap (λ (b : Bool). texts ++ cond b [] (text ∷ [])) (ne_eqb v 0 some) in
-    (step ∙ ap (λ (b : Bool). out ++ cond b text (32 ∷ text)) is-first ∙ ap (λ (t : List ℕ). t ++ cond (is_nil texts) text (32 ∷ text)) told ∙ append_assoc old (join_with_byte 32 texts) (cond (is_nil texts) text (32 ∷ text))
-    ∙ ap (λ (t : List ℕ). old ++ t) (sym (join_push 32 texts text)) ∙ ap (λ t. old ++ join_with_byte 32 t) (sym more),
-    ap is_nil more ∙ not_nil texts text)
+    let more : register_texts 0 (take (i + 1) xs) ≡ texts ++ text ∷ [] = texts_more xs i v lt is ∙ ap (λ (b : Bool). texts ++ cond b [] (text ∷ [])) (ne_eqb v 0 some) in (
+      step ∙ ap (λ (b : Bool). out ++ cond b text (32 ∷ text)) is-first ∙ ap (λ (t : List ℕ). t ++ cond (is_nil texts) text (32 ∷ text)) told ∙ append_assoc old (join_with_byte 32 texts) (cond (is_nil texts) text (32 ∷ text))
+          ∙ ap (λ (t : List ℕ). old ++ t) (sym (join_push 32 texts text)) ∙ ap (λ t. old ++ join_with_byte 32 t) (sym more),
+      ap is_nil more ∙ not_nil texts text,
+    )
 
 -- and after one that is
 pub same_texts : (xs : List ℕ) (i v : ℕ) → i < length xs → v ≡ get_or xs i 0 → v ≡ 0 → register_texts 0 (take (i + 1) xs) ≡ register_texts 0 (take i xs)

@@ -15,8 +15,8 @@ Tracers = State → List Record
 -- a tracepoint at an address, which emits one register
 abbrev pub emit_at : ℕ → ℕ → Tracers
 emit_at address r s =
-  if s.pc == address then record { count = s.count; point = 0; pc = s.pc; words = register s r ∷ []; outcome = Done } ∷ []
-  else []
+    if s.pc == address then record { count = s.count; point = 0; pc = s.pc; words = register s r ∷ []; outcome = Done } ∷ []
+    else []
 
 -- at the recorded end tracepoints fire where the end is a trap
 abbrev pub at_end : Tracers → End → State → List Record

@@ -51,7 +51,7 @@ words_text words = join_with_byte 32 (map word_text words)
 -- a record's line for an analysis, by the analysis's position from 1 and its word
 abbrev pub record_line : ℕ → List ℕ → Record → List ℕ
 record_line position kind r =
-  line (decimal position ∷ kind ∷ decimal r.count ∷ decimal r.point ∷ word_text r.pc ∷ outcome_text r.outcome ∷ words_text r.words ∷ [])
+    line (decimal position ∷ kind ∷ decimal r.count ∷ decimal r.point ∷ word_text r.pc ∷ outcome_text r.outcome ∷ words_text r.words ∷ [])
 
 -- the analysis `all`: a line for each record
 abbrev pub all_lines : ℕ → List Record → List ℕ
@@ -79,8 +79,8 @@ register_text number value = codes "x" ++ decimal number ++ codes "=" ++ word_te
 abbrev pub register_texts : ℕ → List ℕ → List (List ℕ)
 register_texts number [] = []
 register_texts number (value ∷ values) =
-  if value == 0 then register_texts (number + 1) values
-  else register_text number value ∷ register_texts (number + 1) values
+    if value == 0 then register_texts (number + 1) values
+    else register_text number value ∷ register_texts (number + 1) values
 
 -- the line of the registers
 abbrev pub regs_line : List ℕ → List ℕ

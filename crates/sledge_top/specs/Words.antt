@@ -34,9 +34,9 @@ is_plain word = not (starts_with nat_eq word (codes "-")) || nat_le (length word
 -- `trace RECORDING at HEX`
 abbrev pub read_trace_at : List ℕ → List ℕ → List ℕ → List ℕ → Option Order
 read_trace_at command recording at hex =
-  if bytes_eq command (codes "trace") && is_plain recording && bytes_eq at (codes "at")
-  then option_map (λ address. TraceAt recording address) (hex_value hex)
-  else None
+    if bytes_eq command (codes "trace") && is_plain recording && bytes_eq at (codes "at")
+    then option_map (λ address. TraceAt recording address) (hex_value hex)
+    else None
 
 -- the command that the words name, or None
 abbrev pub read_words : List (List ℕ) → Option Order

@@ -179,12 +179,7 @@ fn end_value(end: &End) -> u32
 }
 
 /// Adds the line of the end, with the count and the program counter of the last state.
-pub fn push_end_line(
-    out: &mut Vec<u8>,
-    end: &End,
-    count: u64,
-    pc: u32,
-) -> Result<(), AllocError>
+pub fn push_end_line(out: &mut Vec<u8>, end: &End, count: u64, pc: u32) -> Result<(), AllocError>
     ensures { OnOk result (out.new.items ≡ out.old.items ++ end_line end.now count pc) }
 {
     push_line(
@@ -211,8 +206,5 @@ pub fn push_regs_line(
 {
     let mut texts = Vec::new(alloc);
     push_registers(&mut texts, registers)?;
-    push_line(
-        out,
-        &[b"regs", b"x", b"", b"", b"", b"", texts.as_slice()],
-    )
+    push_line(out, &[b"regs", b"x", b"", b"", b"", b"", texts.as_slice()])
 }

@@ -46,7 +46,11 @@ fn refusals(rt: HostRuntime) -> Result<(), Fail> {
         ("trace e.rec at +1", 1, "sledge: usage\n"),
         ("trace none.rec at 0", 2, "sledge: absent: none.rec\n"),
         ("trace - at 0", 2, "sledge: absent: -\n"),
-        ("trace none.rec at 0xFFffFFff", 2, "sledge: absent: none.rec\n"),
+        (
+            "trace none.rec at 0xFFffFFff",
+            2,
+            "sledge: absent: none.rec\n",
+        ),
         ("trace e.rec at 10008", 15, "sledge: not built\n"),
     ] {
         let mut store = store_of(alloc, "e.rec", Vec::new(alloc), &[])?;
@@ -54,7 +58,9 @@ fn refusals(rt: HostRuntime) -> Result<(), Fail> {
         let mut err = MemorySink::new(alloc, 100, Vec::new(alloc))?;
         let mut world = MemoryWorld::new(Vec::new(alloc));
         let words = words_of(alloc, text)?;
-        let status = sledge(&rt, alloc, &words, &mut store, &mut world, &mut out, &mut err, &NoGate);
+        let status = sledge(
+            &rt, alloc, &words, &mut store, &mut world, &mut out, &mut err, &NoGate,
+        );
         assert_eq!(rt; status.code(), code, "{text}");
         assert_eq!(rt; err.bytes(), line.as_bytes(), "{text}");
         assert!(rt; out.bytes().is_empty(), "{text}");
@@ -89,10 +95,21 @@ fn files_that_are_not_got(rt: HostRuntime) -> Result<(), Fail> {
     let mut out = MemorySink::new(alloc, 100, Vec::new(alloc))?;
     let mut err = MemorySink::new(alloc, 100, Vec::new(alloc))?;
     let mut world = MemoryWorld::new(Vec::new(alloc));
-    let status = sledge(&rt, alloc, &words, &mut LongStore, &mut world, &mut out, &mut err, &NoGate);
+    let status = sledge(
+        &rt,
+        alloc,
+        &words,
+        &mut LongStore,
+        &mut world,
+        &mut out,
+        &mut err,
+        &NoGate,
+    );
     assert_eq!(rt; status.code(), 3);
     let mut store = store_of(alloc, "l.rec", Vec::new(alloc), &[1])?;
-    let status = sledge(&rt, alloc, &words, &mut store, &mut world, &mut out, &mut err, &NoGate);
+    let status = sledge(
+        &rt, alloc, &words, &mut store, &mut world, &mut out, &mut err, &NoGate,
+    );
     assert_eq!(rt; status.code(), 10);
     let lines = b"sledge: longer than 268435456 bytes: l.rec\nsledge: store fault\n";
     assert_eq!(rt; err.bytes(), lines.as_slice());
@@ -109,7 +126,9 @@ fn second_output_fails(rt: HostRuntime) -> Result<(), Fail> {
     let mut err = MemorySink::new(alloc, 10, Vec::new(alloc))?;
     let mut world = MemoryWorld::new(Vec::new(alloc));
     let words = words_of(alloc, "trace none.rec at 0")?;
-    let status = sledge(&rt, alloc, &words, &mut store, &mut world, &mut out, &mut err, &NoGate);
+    let status = sledge(
+        &rt, alloc, &words, &mut store, &mut world, &mut out, &mut err, &NoGate,
+    );
     assert_eq!(rt; status.code(), 2);
     assert_eq!(rt; err.bytes(), b"sledge: ab".as_slice());
     Ok(())

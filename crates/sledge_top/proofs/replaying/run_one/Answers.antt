@@ -28,5 +28,5 @@ returns-else-not-is_exit-clause-onward g c =
     let next = c.in-Call.ensures.next in
     let exits : is_exit (call_of (state_of c.args.m.now pages)) ≡ true = ap (λ m. is_exit (call_of (state_of m pages))) (sym next.1) ∙ sym (c.is_exit.ensures pages) ∙ cc in
     let after : exited (state_of c.args.m.now pages) ≡ state_of c.exit.new.m (g.B.Bus.pages c.step.new.bus) =
-        ap (λ m. exited (state_of m pages)) (sym next.1) ∙ sym (c.exit.ensures.state pages) ∙ ap (state_of c.exit.new.m) (sym next.2) in
+    ap (λ m. exited (state_of m pages)) (sym next.1) ∙ sym (c.exit.ensures.state pages) ∙ ap (state_of c.exit.new.m) (sym next.2) in
     onward_exit _ _ c.requires.running next.0 exits ∙ ap Goes after

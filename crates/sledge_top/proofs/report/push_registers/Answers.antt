@@ -13,9 +13,9 @@ loop-number-preserved c =
     let kept = c.loop-number.invariant in
     elim c.if-value-ne0.branch [
       | then-value-ne0+in_ok-push_register w ↦
-        let both = told_some c.args.out.now.items c.loop-number.out.items w.push_register.new.out.items xs c.loop-number.is_first i v lt refl w.if-value-ne0.true kept.told kept.first w.in_ok-push_register.ensures in
-        record { told = ap (λ o. o.items) w.out-is ∙ both.0; first = w.is_first-is ∙ sym both.1 }
+          let both = told_some c.args.out.now.items c.loop-number.out.items w.push_register.new.out.items xs c.loop-number.is_first i v lt refl w.if-value-ne0.true kept.told kept.first w.in_ok-push_register.ensures in
+          record { told = ap (λ o. o.items) w.out-is ∙ both.0; first = w.is_first-is ∙ sym both.1 }
       | else-value-ne0 w ↦
-        let same = same_texts xs i v lt refl w.if-value-ne0.false in
-        record { told = ap (λ o. o.items) w.out-is ∙ rw same kept.told; first = w.is_first-is ∙ rw same kept.first }
+          let same = same_texts xs i v lt refl w.if-value-ne0.false in
+          record { told = ap (λ o. o.items) w.out-is ∙ rw same kept.told; first = w.is_first-is ∙ rw same kept.first }
     ]
