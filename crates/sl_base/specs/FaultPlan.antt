@@ -11,6 +11,10 @@ pub record FaultPlan : Type 0 where
   -- how many of them failed
   pub faults : ℕ
 
+-- the calls with these numbers are to fail, and there was none yet
+abbrev pub new_plan : List ℕ → FaultPlan
+new_plan failing = record { failing = failing; calls = 0; faults = 0 }
+
 -- one more, up to the end of a u64
 abbrev pub one_more : ℕ → ℕ
 one_more n = min (n + 1) (2 ^ 64 - 1)

@@ -1,9 +1,7 @@
 //! A sink in memory.
 
 ghost use Rattle.std.specs.Prelude.{◌≡◌, ◌-◌, ◌<◌, ◌≤◌, ◌++◌, ◌||◌, [], true, false, min, length, take, is_err, nat_le, IfOk, OnErr};
-ghost use Rattle.sl_base.specs.Faults.{Rose};
-ghost use Rattle.sl_base.specs.FaultPlan.{fails_next, counted};
-ghost use Rattle.sl_base.specs.Written.{Adds};
+ghost use Rattle.sl_base.specs.FaultPlan.{new_plan, fails_next, counted};
 
 use crate::planned_faults::PlannedFaults;
 use crate::refused::Memory;
@@ -33,7 +31,7 @@ impl Model for MemorySink {
 impl MemorySink {
     /// Takes room for so many bytes. The writes with these numbers are to fail, where the first write is 1.
     pub fn new(alloc: Global, room: usize, failing: Vec<u32>) -> Result<MemorySink, Memory>
-        ensures { IfOk result (λ sink. sink ≡ record { bytes = []; room = room; plan = record { failing = failing.items; calls = 0; faults = 0 } }) }
+        ensures { IfOk result (λ sink. sink ≡ record { bytes = []; room = room; plan = new_plan failing.items }) }
     {
         Ok(MemorySink {
             bytes: Vec::with_capacity(alloc, room)?,
@@ -68,11 +66,6 @@ impl Sink for MemorySink {
           plan = counted self.old.plan false;
         }) }
         ensures nothing_taken { OnErr result (self.new ≡ record self.old { plan = counted self.old.plan true }) }
-
-        ensures count { IfOk result (λ n. (0 < n) × (n ≤ length piece.now)) }
-        ensures added { IfOk result (λ n. Adds (Some self.old.bytes) (Some self.new.bytes) (take n piece.now)) }
-        ensures failed { OnErr result (Rose self.old.plan.faults self.new.plan.faults) }
-        ensures kept { OnErr result (Some self.new.bytes ≡ Some self.old.bytes) }
         ensures later { self.old.plan.faults ≤ self.new.plan.faults }
     {
         let left = self.room.saturating_sub(self.bytes.len());

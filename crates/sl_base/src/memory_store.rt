@@ -1,10 +1,9 @@
 //! A store in memory.
 
-ghost use Rattle.std.specs.Prelude.{◌≡◌, ◌≤◌, ◌↔◌, if◌then◌else◌, OnOk, IfOk, IsErrOf, IsTrue, is_ok, vec_len, option_copied};
+ghost use Rattle.std.specs.Prelude.{◌≡◌, ◌≤◌, ◌↔◌, if◌then◌else◌, IfOk, IsErrOf, IsTrue, is_ok, vec_len, option_copied};
 ghost use Rattle.std.specs.FinMap as map;
-ghost use Rattle.sl_base.specs.Faults.{Rose};
-ghost use Rattle.sl_base.specs.FaultPlan.{fails_next, counted};
-ghost use Rattle.sl_base.specs.Files.{HasFile, HasNoFile, HasLongerFile, PutsFile, KeepsOtherFiles};
+ghost use Rattle.sl_base.specs.FaultPlan.{new_plan, fails_next, counted};
+ghost use Rattle.sl_base.specs.Files.{HasFile, HasNoFile, HasLongerFile};
 ghost use Rattle.sl_base.specs.FileList.{files_of};
 
 use crate::file_list;
@@ -36,7 +35,7 @@ impl MemoryStore {
     /// A store with these names and bytes, where the first file of a name counts. The calls with these numbers are to
     /// fail, where the first get or put is 1. It takes no memory.
     pub fn new(files: Vec<(String, Vec<u8>)>, failing: Vec<u32>) -> MemoryStore
-        ensures { result ≡ record { files = files_of files.items; plan = record { failing = failing.items; calls = 0; faults = 0 } } }
+        ensures { result ≡ record { files = files_of files.items; plan = new_plan failing.items } }
     {
         MemoryStore {
             files,
@@ -68,8 +67,6 @@ impl Store for MemoryStore {
         ensures bytes { IfOk result (λ bytes. HasFile (Some self.old.files) name.now bytes.items) }
         ensures absent { IsErrOf result GetFault.Absent → HasNoFile (Some self.old.files) name.now }
         ensures too_long { IsErrOf result GetFault.TooLong → HasLongerFile (Some self.old.files) name.now limit }
-        ensures failed { IsErrOf result GetFault.Failed → Rose self.old.plan.faults self.new.plan.faults }
-        ensures same { Some self.new.files ≡ Some self.old.files }
         ensures later { self.old.plan.faults ≤ self.new.plan.faults }
     {
         if self.plan.next_fails(false) {
@@ -85,11 +82,6 @@ impl Store for MemoryStore {
           files = if is_ok result then map.insert self.old.files name.now bytes.now else self.old.files;
           plan = counted self.old.plan (fails_next self.old.plan);
         } }
-
-        ensures put { OnOk result (PutsFile (Some self.old.files) (Some self.new.files) name.now bytes.now) }
-        ensures failed { IsErrOf result PutFault.Failed → Rose self.old.plan.faults self.new.plan.faults }
-        ensures others { IsErrOf result PutFault.Failed → KeepsOtherFiles (Some self.old.files) (Some self.new.files) name.now }
-        ensures memory { IsErrOf result PutFault.Memory → Some self.new.files ≡ Some self.old.files }
         ensures later { self.old.plan.faults ≤ self.new.plan.faults }
     {
         if self.plan.next_fails(false) {

@@ -2,7 +2,7 @@
 
 ghost use Rattle.std.specs.Prelude.{◌≡◌, ◌≤◌, ◌||◌, ◌==◌};
 ghost use Rattle.std.specs.List.{list_any};
-ghost use Rattle.sl_base.specs.FaultPlan.{fails_next, counted};
+ghost use Rattle.sl_base.specs.FaultPlan.{new_plan, fails_next, counted};
 
 use std::marker::Model;
 
@@ -25,7 +25,7 @@ impl Model for PlannedFaults {
 impl PlannedFaults {
     /// The calls with these numbers are to fail, where the first call is 1.
     pub fn new(failing: Vec<u32>) -> PlannedFaults
-        ensures { result ≡ record { failing = failing.items; calls = 0; faults = 0 } }
+        ensures { result ≡ new_plan failing.items }
     {
         PlannedFaults {
             failing,

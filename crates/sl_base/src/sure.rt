@@ -1,6 +1,6 @@
 //! A store and a sink that never fail.
 
-ghost use Rattle.std.specs.Prelude.{◌≡◌, Some, option_copied};
+ghost use Rattle.std.specs.Prelude.{◌≡◌, Some, length, option_copied};
 ghost use Rattle.std.specs.FinMap as map;
 ghost use Rattle.sl_base.specs.FileList.{files_of};
 
@@ -74,7 +74,9 @@ impl Sink for SureSink {
 
     ghost faults = { λ _. 0 };
 
-    fn write(&mut self, piece: &[u8]) -> Result<usize, SinkFailed> {
+    fn write(&mut self, piece: &[u8]) -> Result<usize, SinkFailed>
+        ensures { result ≡ Ok (length piece.now) }
+    {
         Ok(piece.len())
     }
 }

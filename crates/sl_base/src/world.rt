@@ -46,5 +46,6 @@ pub trait World {
         requires take { length take.old ≤ 65536 }
         ensures range { IsAnswer call.now (length give.now) (length take.old) result }
         ensures rest { KeepsRest call.now result take.old take.new }
-        ensures told { Answers (replies self.old) (replies self.new) call.now (length give.now) take.old take.new result };
+        ensures told { Answers (replies self.old) (replies self.new)
+            call.now (length give.now) take.old take.new result };
 }
