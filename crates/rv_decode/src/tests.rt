@@ -1,4 +1,5 @@
-//! Words and their instructions, as an assembler that is not ours spells them.
+//! Words and their instructions: the words are those that LLVM's `llvm-mc` makes of the assembly text, and the fields
+//! are those of the text. The illegal words are the neighbors of these, and instructions of other extensions.
 
 use crate::{
     Bits, BranchOp, ImmediateOp, Instr, LoadOp, MultiplyOp, Register, RegisterOp, ShiftOp, StoreOp,

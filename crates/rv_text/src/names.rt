@@ -49,6 +49,7 @@ pub fn register(register: Register) -> &'static str
     }
 }
 
+/// The mnemonic of a branch.
 pub fn branch(op: BranchOp) -> &'static str
     ensures { result.now ≡ branch_name op }
 {
@@ -62,6 +63,7 @@ pub fn branch(op: BranchOp) -> &'static str
     }
 }
 
+/// The mnemonic of a load.
 pub fn load(op: LoadOp) -> &'static str
     ensures { result.now ≡ load_name op }
 {
@@ -74,6 +76,7 @@ pub fn load(op: LoadOp) -> &'static str
     }
 }
 
+/// The mnemonic of a store.
 pub fn store(op: StoreOp) -> &'static str
     ensures { result.now ≡ store_name op }
 {
@@ -84,6 +87,7 @@ pub fn store(op: StoreOp) -> &'static str
     }
 }
 
+/// The mnemonic of an operation with an immediate.
 pub fn immediate(op: ImmediateOp) -> &'static str
     ensures { result.now ≡ immediate_name op }
 {
@@ -97,6 +101,7 @@ pub fn immediate(op: ImmediateOp) -> &'static str
     }
 }
 
+/// The mnemonic of a shift by an amount in the word.
 pub fn shift(op: ShiftOp) -> &'static str
     ensures { result.now ≡ shift_name op }
 {
@@ -107,6 +112,7 @@ pub fn shift(op: ShiftOp) -> &'static str
     }
 }
 
+/// The mnemonic of an operation of two registers.
 pub fn operation(op: RegisterOp) -> &'static str
     ensures { result.now ≡ operation_name op }
 {
@@ -124,6 +130,7 @@ pub fn operation(op: RegisterOp) -> &'static str
     }
 }
 
+/// The mnemonic of an operation of the "M" extension.
 pub fn multiply(op: MultiplyOp) -> &'static str
     ensures { result.now ≡ multiply_name op }
 {

@@ -1,4 +1,4 @@
-//! Words and their texts, as a disassembler that is not ours prints them, but for FENCE, whose fields it prints too.
+//! Words and their texts, as LLVM's `llvm-mc` prints them without aliases. It prints the fields of FENCE too.
 
 use crate::print_instr;
 use rv_decode::decode;

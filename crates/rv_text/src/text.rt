@@ -21,7 +21,8 @@ fn three_registers(
     b: Register,
     c: Register,
 ) -> Result<String, AllocError>
-    ensures { IfOk result (λ text. string_bytes text ≡ three_operands name.now (register_name a) (register_name b) (register_name c)) }
+    ensures { IfOk result (λ text. string_bytes text
+        ≡ three_operands name.now (register_name a) (register_name b) (register_name c)) }
 {
     let a = names::register(a);
     let b = names::register(b);
@@ -37,7 +38,8 @@ fn registers_and_number(
     b: Register,
     number: i32,
 ) -> Result<String, AllocError>
-    ensures { IfOk result (λ text. string_bytes text ≡ three_operands name.now (register_name a) (register_name b) (signed_decimal number)) }
+    ensures { IfOk result (λ text. string_bytes text
+        ≡ three_operands name.now (register_name a) (register_name b) (signed_decimal number)) }
 {
     let a = names::register(a);
     let b = names::register(b);
@@ -51,7 +53,8 @@ fn register_and_number(
     a: Register,
     number: i32,
 ) -> Result<String, AllocError>
-    ensures { IfOk result (λ text. string_bytes text ≡ two_operands name.now (register_name a) (signed_decimal number)) }
+    ensures { IfOk result (λ text. string_bytes text
+        ≡ two_operands name.now (register_name a) (signed_decimal number)) }
 {
     let a = names::register(a);
     format!(in alloc; "{name} {a}, {number}")
@@ -65,7 +68,8 @@ fn register_and_address(
     offset: Bits<12>,
     base: Register,
 ) -> Result<String, AllocError>
-    ensures { IfOk result (λ text. string_bytes text ≡ two_operands name.now (register_name a) (address (immediate_word offset) base)) }
+    ensures { IfOk result (λ text. string_bytes text
+        ≡ two_operands name.now (register_name a) (address (immediate_word offset) base)) }
 {
     let a = names::register(a);
     let offset = numbers::immediate(offset);
