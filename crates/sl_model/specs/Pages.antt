@@ -2,7 +2,7 @@
 use Rattle.std.specs.Prelude.{◌≡◌, ℕ, zero, suc, ◌+◌, ◌*◌, ◌/◌, ◌%◌, ◌^◌, ◌<◌, ◌⊎◌, List, [], ◌∷◌, length, Option, Some, None, IfSome, unwrap_or, slice_get, slice_set}
 use Rattle.std.specs.Ordering.{nat_cmp}
 use Rattle.std.specs.FinMap.{FinMap, get, insert}
-use Rattle.std.specs.List.{AllByRecursion}
+use Rattle.std.specs.List.{All}
 use Rattle.std.specs.Option.{option_map, option_and_then}
 
 -- the mapped pages, by their numbers
@@ -12,7 +12,7 @@ Pages = FinMap nat_cmp (List ℕ)
 -- 4,096 bytes
 pub record IsPage (page : List ℕ) : Type 0 where
   pub whole : length page ≡ 4096
-  pub bytes : AllByRecursion (λ b. b < 256) page
+  pub bytes : All (λ b. b < 256) page
 
 -- pages of the 32-bit address space
 abbrev pub ArePages : Pages → Type 0

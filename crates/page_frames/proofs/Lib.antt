@@ -1,0 +1,9 @@
+pub mod Views
+pub mod Places
+pub mod Kept
+pub mod Marking
+pub mod Changed
+pub mod Mapped
+pub mod Copied
+pub mod Stored
+pub mod Loaded

@@ -1,0 +1,4 @@
+use Rattle.page_frames.proofs.frames.Frames.+load_across.Given as goal
+
+abbrev pub decreases-load_across : goal.decreases-load_across
+decreases-load_across l = l.count

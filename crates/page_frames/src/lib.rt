@@ -1,0 +1,9 @@
+//! A program's memory: pages of 4,096 bytes by their numbers, with the list of those that changed.
+#![tactic(auto)]
+
+mod frame;
+mod frames;
+#[cfg(test)]
+mod tests;
+
+pub use frames::Frames;
