@@ -58,7 +58,7 @@ fn write_and_go_to(m: &mut Machine, rd: Register, value: u32, pc: u32)
 }
 
 /// The address of a load, of a store and of JALR.
-fn address(m: &Machine, rs1: Register, offset: Bits<12>) -> u32
+pub(crate) fn address(m: &Machine, rs1: Register, offset: Bits<12>) -> u32
     ensures { result ≡ word_add (slice_index m.now.x rs1) (immediate_word offset) }
 {
     register(m, rs1).wrapping_add(arithmetic::immediate_word(offset))

@@ -5,6 +5,8 @@ mod arithmetic;
 mod execute;
 mod machine;
 mod stepping;
+mod stores;
 
 pub use machine::{Machine, Outcome};
 pub use stepping::step;
+pub use stores::store_of;
