@@ -75,7 +75,7 @@ pages_diff opened rec k s [] = None
 pages_diff opened rec k s (number ∷ numbers) = page_diff opened rec k number (get s.pages number) else_try pages_diff opened rec k s numbers
 
 -- every number that a page may have
-abbrev pub PAGE_NUMBERS : List ℕ
+unfoldable pub PAGE_NUMBERS : List ℕ
 PAGE_NUMBERS = range_with_len 0 (2 ^ 20)
 
 -- the least part that differs but for memory: 0 pc, 1 to 31 the registers, 32 the break, 33 the mapped end, 34 the index

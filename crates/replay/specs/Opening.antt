@@ -23,15 +23,22 @@ unfoldable pub map_pages : Pages → ℕ → ℕ → Pages
 map_pages pages first zero = pages
 map_pages pages first (suc count) = map_pages (map_page pages first) (first + 1) count
 
--- the pages that meet a segment are mapped, and its bytes stand at its start
-abbrev pub load_segment : Pages → Segment → Pages
-load_segment pages segment =
-    if segment.memsz == 0 then pages
-    else set_bytes (map_pages pages (segment.vaddr / 4096) (page_count segment.vaddr segment.memsz)) segment.vaddr segment.bytes
+-- the pages that meet a segment
+abbrev pub map_segment : Pages → Segment → Pages
+map_segment pages segment = if segment.memsz == 0 then pages else map_pages pages (segment.vaddr / 4096) (page_count segment.vaddr segment.memsz)
 
-unfoldable pub load_segments : Pages → List Segment → Pages
-load_segments pages [] = pages
-load_segments pages (segment ∷ segments) = load_segments (load_segment pages segment) segments
+unfoldable pub map_segments : Pages → List Segment → Pages
+map_segments pages [] = pages
+map_segments pages (segment ∷ segments) = map_segments (map_segment pages segment) segments
+
+-- the pages of an image and of the stack, of zeros
+abbrev pub mapped : Image → Pages
+mapped image = map_pages (map_segments empty image.segments) FIRST_STACK_PAGE STACK_PAGES
+
+-- the bytes of each segment stand at its start
+unfoldable pub fill_segments : Pages → List Segment → Pages
+fill_segments pages [] = pages
+fill_segments pages (segment ∷ segments) = fill_segments (set_bytes pages segment.vaddr segment.bytes) segments
 
 -- ---- the stack, below its end at 0x80000000
 
@@ -63,9 +70,9 @@ stack_words args = length args ∷ (string_addresses (strings_start args) args +
 abbrev pub stack_pointer : List (List ℕ) → ℕ
 stack_pointer args = (strings_start args - 4 * (length args + 5)) / 16 * 16
 
--- the stack with its contents
-abbrev pub load_stack : Pages → List (List ℕ) → Pages
-load_stack pages args = set_bytes (set_bytes (map_pages pages FIRST_STACK_PAGE STACK_PAGES) (strings_start args) (strings args)) (stack_pointer args) (flat_map (low_bytes 4) (stack_words args))
+-- the arguments, and the words at the stack pointer
+abbrev pub fill_stack : Pages → List (List ℕ) → Pages
+fill_stack pages args = set_bytes (set_bytes pages (strings_start args) (strings args)) (stack_pointer args) (flat_map (low_bytes 4) (stack_words args))
 
 -- ---- the heap
 
@@ -89,7 +96,7 @@ heap_limit start = min (start + 0x1000000) (wall start)
 -- ---- the state
 
 abbrev pub opening_pages : Image → List (List ℕ) → Pages
-opening_pages image args = load_stack (load_segments empty image.segments) args
+opening_pages image args = fill_stack (fill_segments (mapped image) image.segments) args
 
 -- all registers are 0 but the stack pointer, x2
 abbrev pub opening_registers : List (List ℕ) → List ℕ

@@ -1,8 +1,10 @@
 -- Pieces joined by a separator, one piece after the other.
-use Rattle.std.proofs.Common.{◌≡◌, ℕ, zero, suc, ◌+◌, ◌<◌, Bool, true, false, cond, eqb, List, [], ◌∷◌, ◌++◌, length, map, take, get_or, refl, sym, ap, ◌∙◌, append_assoc, arith}
-use Rattle.std.specs.List.{join_with_byte}
+use Rattle.std.proofs.Common.{◌≡◌, ℕ, zero, suc, ◌+◌, ◌<◌, Bool, false, cond, eqb, List, [], ◌∷◌, ◌++◌, length, map, take, get_or, refl, sym, ap, ◌∙◌, append_assoc, arith}
+use Rattle.std.specs.List.{join_with_byte, flat_map}
+use Rattle.std.proofs.lemmas.List.Concat.{flat_map-cons}
+use Rattle.std.proofs.lemmas.Grind.{flat_map-append}
 use Rattle.sledge_top.specs.Small.{is_nil}
-use Rattle.std.proofs.lemmas.List.{take_more, map-append}
+use Rattle.std.proofs.lemmas.List.{take_more, map-append, append-nil}
 use Rattle.std.proofs.lemmas.Bool.Decides.{nat_tests}
 
 -- one piece more
@@ -23,3 +25,9 @@ join_more c f xs i d lt =
     let y = f (get_or xs i d) in
     ap (λ t. join_with_byte c (map f t)) (take_more xs i d lt) ∙ ap (join_with_byte c) (map-append f (take i xs) (get_or xs i d ∷ []))
     ∙ join_push c (map f (take i xs)) y ∙ ap (λ (b : Bool). join_with_byte c (map f (take i xs)) ++ cond b y (c ∷ y)) (front_is_nil f xs i lt)
+
+-- the items up to a place and the one there, each with its bytes
+pub flat_more : {X : Type 0} (f : X → List ℕ) (xs : List X) (i : ℕ) (d : X) → i < length xs → flat_map f (take (i + 1) xs) ≡ flat_map f (take i xs) ++ f (get_or xs i d)
+flat_more f xs i d lt =
+    ap (flat_map f) (take_more xs i d lt) ∙ flat_map-append f (take i xs) (get_or xs i d ∷ [])
+    ∙ ap (λ (t : List ℕ). flat_map f (take i xs) ++ t) (flat_map-cons f (get_or xs i d) [] ∙ append-nil (f (get_or xs i d)))

@@ -4,3 +4,4 @@ mod Registers
 mod Fields
 pub mod Stepping
 mod UnderWay
+pub mod Mapping

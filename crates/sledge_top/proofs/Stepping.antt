@@ -1,10 +1,10 @@
 -- One instruction of a replay without recorded calls and checkpoints.
 use Rattle.std.specs.Prelude.{slice_get, if◌then◌else◌}
-use Rattle.std.proofs.Common.{◌≡◌, ℕ, zero, suc, Bool, true, false, List, [], ◌∷◌, ◌++◌, Option, Some, None, ap, ◌∙◌}
+use Rattle.std.proofs.Common.{◌≡◌, ℕ, suc, Bool, true, false, [], ◌++◌, Option, Some, ap, ◌∙◌}
 use Rattle.sl_model.specs.declared.run_state.RunState.TheVariants.{Running, Exited}
 use Rattle.sl_model.specs.Pages.{Pages}
 use Rattle.sl_model.specs.State.{State}
-use Rattle.sl_model.specs.Step.{Next, Stepped, Called, Trapped, step}
+use Rattle.sl_model.specs.Step.{Stepped, Called, Trapped, step}
 use Rattle.call_log.specs.declared.breaks.Break.{Break}
 use Rattle.call_log.specs.declared.breaks.BreakKind.{BreakKind}
 use Rattle.call_log.specs.declared.breaks.BreakKind.TheVariants.{NoCall, EarlyEnd}

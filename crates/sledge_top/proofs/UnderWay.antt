@@ -1,12 +1,12 @@
 -- A replay, one instruction after the other.
-use Rattle.std.proofs.Common.{◌≡◌, ℕ, zero, suc, ◌+◌, ◌-◌, ◌<◌, ◌≤◌, List, [], ◌++◌, Some, refl, sym, ap, subst, ◌∙◌, append_assoc, arith}
+use Rattle.std.proofs.Common.{◌≡◌, ℕ, suc, ◌+◌, ◌-◌, ◌<◌, ◌≤◌, List, [], ◌++◌, Some, refl, sym, ap, subst, ◌∙◌, append_assoc, arith}
 use Rattle.sl_model.specs.Pages.{Pages}
 use Rattle.sl_model.specs.State.{State}
 use Rattle.call_log.specs.declared.breaks.Break.{Break}
 use Rattle.call_log.specs.declared.breaks.BreakKind.{BreakKind}
 use Rattle.rec_format.specs.declared.recording.Recording.{Recording}
 use Rattle.tracer_lang.specs.declared.record.Record.{Record}
-use Rattle.replay.specs.Run.{onward, run_from, Goes, Breaks}
+use Rattle.replay.specs.Run.{onward, Goes, Breaks}
 use Rattle.replay.specs.Breaks.{first_break_from}
 use Rattle.sledge_top.specs.Records.{Tracers, records_from}
 use Rattle.sledge_top.specs.Replay.{IsUnderWay}

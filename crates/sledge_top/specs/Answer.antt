@@ -1,9 +1,13 @@
 -- What a command comes to, from its words and the files.
-use Rattle.std.specs.Prelude.{◌≡◌, ℕ, ◌≢◌, List, [], ◌∷◌, length, Option, Some, None, Result, Ok, Err, nat_lt, if◌then◌else◌, ⊤}
+use Rattle.std.specs.Prelude.{◌≡◌, ℕ, List, [], length, Option, Some, None, Result, Ok, Err, nat_lt, if◌then◌else◌, ⊤}
 use Rattle.std.specs.FinMap.{get}
 use Rattle.sl_base.specs.Files.{Files}
 use Rattle.sledge_top.specs.declared.status.Status.{Status}
 use Rattle.sledge_top.specs.declared.status.Status.TheVariants as status
+use Rattle.rec_format.specs.declared.recording.Recording.{Recording}
+use Rattle.rec_format.specs.declared.fault.RecFault.{RecFault}
+use Rattle.rec_format.specs.Reading.{reading}
+use Rattle.sledge_top.specs.Small.{is_small}
 use Rattle.sledge_top.specs.Words.{Order, TraceAt, read_words}
 
 infixl 10 ◌>>=◌
@@ -23,10 +27,21 @@ within limit name (Some bytes) = if nat_lt limit (length bytes) then Err (status
 abbrev pub file_of : Files → List ℕ → ℕ → Result (List ℕ) Status
 file_of files name limit = within limit name (get files name)
 
+-- ---- the command that traces
+
+-- the recording that bytes spell, where it is one that is built
+abbrev pub small_of : Result Recording RecFault → Result Recording Status
+small_of (Ok rec) = if is_small rec then Ok rec else Err status.NotBuilt
+small_of (Err fault) = Err status.NotBuilt
+
+abbrev pub small_recording : List ℕ → Result Recording Status
+small_recording bytes = small_of (reading bytes)
+
 -- the text that a command writes to the first output, or how it is refused
-abbrev pub text_of : Files → Order → Result (List ℕ) Status
+unfoldable pub text_of : Files → Order → Result (List ℕ) Status
 text_of files (TraceAt recording address) = do
   bytes ← file_of files recording RECORDING_LIMIT
+  rec ← small_recording bytes
   Err status.NotBuilt
 
 -- the same from the words

@@ -1,5 +1,5 @@
 -- What one instruction of a replay came to.
-use Rattle.std.specs.Prelude.{◌≡◌, ℕ, Bool, true, false, List, ◌++◌, Option, Some}
+use Rattle.std.specs.Prelude.{◌≡◌, ℕ, Bool, true, false, List, ◌++◌, Some}
 use Rattle.sl_model.specs.Pages.{Pages}
 use Rattle.sl_model.specs.State.{State}
 use Rattle.call_log.specs.declared.breaks.BreakKind.{BreakKind}

@@ -1,5 +1,5 @@
 -- The recordings that are built so far.
-use Rattle.std.specs.Prelude.{◌≡◌, ℕ, ◌==◌, ◌&&◌, Bool, true, false, List, [], ◌∷◌}
+use Rattle.std.specs.Prelude.{◌==◌, ◌&&◌, Bool, true, false, List, [], ◌∷◌}
 use Rattle.call_log.specs.declared.entry.End.{End}
 use Rattle.call_log.specs.declared.entry.End.TheVariants as end
 use Rattle.rec_format.specs.declared.recording.Recording.{Recording}

@@ -11,6 +11,7 @@ ghost use Rattle.sledge_top.specs.Answer.{Gives, Ends, text, text_of, outcome};
 use crate::fault_line::write_fault;
 use crate::status::Status;
 use crate::store::file_of;
+use crate::trace::small_recording;
 use crate::words::{Order, read_words};
 use sl_base::{Gate, Sink, Store, World, write_all};
 use std::alloc::Global;
@@ -20,6 +21,7 @@ use std::thread::Threads;
 const RECORDING_LIMIT: u64 = 268_435_456;
 
 /// The text that a command writes to the first output, or how it is refused.
+#[tactic(auto, unfolding(crate::specs::Answer::text_of))]
 fn text_of<S: Store>(alloc: Global, order: Order<'_>, store: &mut S) -> Result<Vec<u8>, Status>
     ensures text { IfSome (S.told store.old) (λ files. Gives (λ text. text.items) result (text_of files (order_of order.entry))) }
     ensures failed { IsErrOf result Status.StoreFault → Rose (S.faults store.old) (S.faults store.new) }
@@ -31,7 +33,8 @@ fn text_of<S: Store>(alloc: Global, order: Order<'_>, store: &mut S) -> Result<V
             recording,
             address: _,
         } => {
-            let _bytes = file_of(alloc, store, recording, RECORDING_LIMIT)?;
+            let bytes = file_of(alloc, store, recording, RECORDING_LIMIT)?;
+            let _rec = small_recording(alloc, &bytes)?;
             Err(Status::NotBuilt)
         }
     }

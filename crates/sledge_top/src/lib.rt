@@ -4,10 +4,12 @@
 mod command;
 mod differ;
 mod fault_line;
+mod opening;
 mod replaying;
 mod report;
 mod status;
 mod store;
+mod trace;
 mod words;
 
 pub use command::sledge;

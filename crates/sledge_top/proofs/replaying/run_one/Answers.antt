@@ -1,10 +1,8 @@
-use Rattle.std.proofs.Common.{◌≡◌, true, false, refl, sym, ap, ◌∙◌}
-use Rattle.sl_model.specs.State.{State}
-use Rattle.sl_model.specs.Step.{Called, step}
+use Rattle.std.proofs.Common.{◌≡◌, true, false, sym, ap, ◌∙◌}
 use Rattle.rv_machine.specs.Machine.{state_of}
 use Rattle.call_log.specs.declared.breaks.BreakKind.TheVariants.{NoCall, EarlyEnd}
 use Rattle.replay.specs.Calls.{call_of, is_exit, exited}
-use Rattle.replay.specs.Run.{onward, Goes}
+use Rattle.replay.specs.Run.{Goes}
 use Rattle.sledge_top.proofs.Stepping.{onward_stepped, onward_trapped, onward_exit, onward_call}
 use Rattle.sledge_top.proofs.replaying.run_one.Goals as goal
 

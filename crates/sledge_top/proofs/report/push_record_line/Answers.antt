@@ -1,4 +1,4 @@
-use Rattle.std.proofs.Common.{◌≡◌, List, ℕ, ◌++◌, OnOk, refl, subst, ap, ◌∙◌}
+use Rattle.std.proofs.Common.{◌≡◌, List, ℕ, ◌++◌, OnOk, subst, ap, ◌∙◌}
 use Rattle.std.specs.Prelude.{decimal}
 use Rattle.sledge_top.specs.Report.{line, outcome_text, words_text}
 use Rattle.sledge_top.proofs.Fields.{same_fields}

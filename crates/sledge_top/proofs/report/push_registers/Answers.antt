@@ -1,5 +1,4 @@
-use Rattle.std.proofs.Common.{◌≡◌, ◌<◌, length, get_or, refl, sym, ap, ◌∙◌, arith}
-use Rattle.sledge_top.specs.Small.{is_nil}
+use Rattle.std.proofs.Common.{◌<◌, length, get_or, refl, sym, ap, ◌∙◌, arith}
 use Rattle.sledge_top.proofs.Registers.{told_some, same_texts}
 use Rattle.sledge_top.proofs.report.push_registers.Goals as goal
 use Rattle.sledge_top.proofs.report.push_registers.Goals.{then-value-ne0+in_ok-push_register, else-value-ne0}
