@@ -119,5 +119,5 @@ grown_if true m page = omega arith
 grown_if false m page = rw (len-insert nat_cmp_total) (grown_len (map.contains_key m.pages page) (map.len m.pages))
 
 -- a page is one more at most
-pub len-with_page : (m n : MarkedPages) (page k : ℕ) → map.len m.pages ≤ k → n ≡ with_page m page → map.len n.pages ≤ k + 1
-len-with_page m n page k few is = rw is (let more = grown_if (map.contains_key m.pages page) m page in omega arith)
+pub len-with_page : (m n : MarkedPages) (page : ℕ) → n ≡ with_page m page → map.len n.pages ≤ map.len m.pages + 1
+len-with_page m n page is = rw is (grown_if (map.contains_key m.pages page) m page)

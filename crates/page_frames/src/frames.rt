@@ -52,6 +52,7 @@ impl Frames {
         requires below { page < PROGRAM_PAGES }
         requires few { len self.old.pages < MOST_PAGES }
         ensures ok { OnOk result (self.new ≡ with_page self.old page) }
+        ensures one_more { len self.new.pages ≤ len self.old.pages + 1 }
         ensures err { OnErr result (self.new ≡ self.old) }
     {
         if self.frames.contains_key(&page) {

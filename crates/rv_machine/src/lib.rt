@@ -6,6 +6,8 @@ mod execute;
 mod machine;
 mod stepping;
 mod stores;
+#[cfg(test)]
+mod tests;
 
 pub use machine::{Machine, Outcome};
 pub use stepping::step;

@@ -2,10 +2,10 @@ use Rattle.std.proofs.Common.{◌≡◌, ◌≤◌, ◌<◌, ◌++◌, ◌∷◌
 use Rattle.std.specs.Ordering.{nat_cmp}
 use Rattle.std.specs.BTreeMap.{get, btree_map_len}
 use Rattle.std.specs.FinMap as map
-use Rattle.page_frames.specs.Fields.{pages_of}
+use Rattle.page_frames.specs.Fields.{marked_pages_of, pages_of}
 use Rattle.page_frames.specs.MarkedPages.{MOST_PAGES}
 use Rattle.page_frames.proofs.Kept.{length-le-frames, mapped}
-use Rattle.page_frames.proofs.Mapped.{with_page-mapped, AreFields-same, AreFields-mapped, view-mapped, none_found, none_or_one}
+use Rattle.page_frames.proofs.Mapped.{with_page-mapped, AreFields-same, AreFields-mapped, len-with_page, view-mapped, none_found, none_or_one}
 use Rattle.std.specs.Prelude.{is_some}
 use Rattle.page_frames.proofs.frames.Frames.map_page.Goals as goal
 
@@ -39,3 +39,6 @@ returns-clause-ok c =
     let none : None ≡ get nat_cmp c.self.inside.frames c.args.page = none_found _ (sym c.contains_key.ensures ∙ c.if-contains_key.false) in
     view-mapped c.self.inside (record { frames = c.insert.new.self; dirty = c.push_reserved.new.self }) c.args.self.now c.args.page c.zeros.result c.self.view_is c.in_ok-insert.ensures.updates none
     c.zeros.ensures.bytes (c.push_reserved.ensures.items ∙ ap (λ ps. ps ++ c.args.page ∷ []) c.reserve.ensures.items)
+
+pub returns-clause-one_more : goal.returns-clause-one_more
+returns-clause-one_more c = len-with_page c.args.self.now (marked_pages_of (record { frames = c.insert.new.self; dirty = c.push_reserved.new.self })) c.args.page (returns-clause-ok c)

@@ -1,0 +1,206 @@
+//! The values of operations: zero, the greatest values, the edge of the sign, and what divides by zero.
+
+use super::{LEAST, ONES, PLACE, run, two_pages, value, x};
+use crate::Outcome;
+use sl_model::{Bits, ImmediateOp, Instr, MultiplyOp, RegisterOp, ShiftOp};
+use std::test::Fail;
+
+const GREATEST: u32 = 0x7fff_ffff;
+
+#[test]
+fn registers(rt: HostRuntime) -> Result<(), Fail> {
+    let mut frames = two_pages(rt.alloc())?;
+    for (op, first, second, expected) in [
+        (RegisterOp::Add, 0, 0, 0),
+        (RegisterOp::Add, ONES, 1, 0),
+        (RegisterOp::Add, GREATEST, 1, LEAST),
+        (RegisterOp::Sub, 0, 1, ONES),
+        (RegisterOp::Sub, LEAST, 1, GREATEST),
+        (RegisterOp::Sub, ONES, ONES, 0),
+        (RegisterOp::Sll, 1, 31, LEAST),
+        (RegisterOp::Sll, 1, 32, 1),
+        (RegisterOp::Sll, ONES, ONES, LEAST),
+        (RegisterOp::Slt, LEAST, GREATEST, 1),
+        (RegisterOp::Slt, GREATEST, LEAST, 0),
+        (RegisterOp::Slt, ONES, 0, 1),
+        (RegisterOp::Slt, 0, 0, 0),
+        (RegisterOp::Sltu, GREATEST, LEAST, 1),
+        (RegisterOp::Sltu, ONES, 0, 0),
+        (RegisterOp::Sltu, 0, 0, 0),
+        (RegisterOp::Xor, ONES, LEAST, GREATEST),
+        (RegisterOp::Xor, 0, 0, 0),
+        (RegisterOp::Srl, LEAST, 31, 1),
+        (RegisterOp::Srl, LEAST, 32, LEAST),
+        (RegisterOp::Srl, ONES, 0x24, 0x0fff_ffff),
+        (RegisterOp::Sra, LEAST, 31, ONES),
+        (RegisterOp::Sra, LEAST, 0x24, 0xf800_0000),
+        (RegisterOp::Sra, GREATEST, 31, 0),
+        (RegisterOp::Or, LEAST, GREATEST, ONES),
+        (RegisterOp::Or, 0, 0, 0),
+        (RegisterOp::And, ONES, LEAST, LEAST),
+        (RegisterOp::And, LEAST, GREATEST, 0),
+    ] {
+        let instr = Instr::Register {
+            op,
+            rd: x(3),
+            rs1: x(1),
+            rs2: x(2),
+        };
+        assert_eq!(rt; value(&rt, &mut frames, instr, first, second), expected);
+    }
+    Ok(())
+}
+
+#[test]
+fn products(rt: HostRuntime) -> Result<(), Fail> {
+    let mut frames = two_pages(rt.alloc())?;
+    for (op, first, second, expected) in [
+        (MultiplyOp::Mul, 0, ONES, 0),
+        (MultiplyOp::Mul, ONES, ONES, 1),
+        (MultiplyOp::Mul, LEAST, ONES, LEAST),
+        (MultiplyOp::Mul, GREATEST, 2, 0xffff_fffe),
+        (MultiplyOp::Mulh, ONES, ONES, 0),
+        (MultiplyOp::Mulh, LEAST, LEAST, 0x4000_0000),
+        (MultiplyOp::Mulh, LEAST, GREATEST, 0xc000_0000),
+        (MultiplyOp::Mulh, ONES, 1, ONES),
+        (MultiplyOp::Mulh, GREATEST, GREATEST, 0x3fff_ffff),
+        (MultiplyOp::Mulhsu, ONES, ONES, ONES),
+        (MultiplyOp::Mulhsu, LEAST, ONES, LEAST),
+        (MultiplyOp::Mulhsu, GREATEST, ONES, 0x7fff_fffe),
+        (MultiplyOp::Mulhsu, 1, LEAST, 0),
+        (MultiplyOp::Mulhu, ONES, ONES, 0xffff_fffe),
+        (MultiplyOp::Mulhu, LEAST, LEAST, 0x4000_0000),
+        (MultiplyOp::Mulhu, 1, ONES, 0),
+        (MultiplyOp::Mulhu, 0, 0, 0),
+    ] {
+        let instr = Instr::Multiply {
+            op,
+            rd: x(3),
+            rs1: x(1),
+            rs2: x(2),
+        };
+        assert_eq!(rt; value(&rt, &mut frames, instr, first, second), expected);
+    }
+    Ok(())
+}
+
+#[test]
+fn quotients(rt: HostRuntime) -> Result<(), Fail> {
+    let mut frames = two_pages(rt.alloc())?;
+    for (op, first, second, expected) in [
+        (MultiplyOp::Div, LEAST, ONES, LEAST),
+        (MultiplyOp::Div, LEAST, 0, ONES),
+        (MultiplyOp::Div, 0, 0, ONES),
+        (MultiplyOp::Div, 0xffff_fff9, 2, 0xffff_fffd),
+        (MultiplyOp::Div, 7, 0xffff_fffe, 0xffff_fffd),
+        (MultiplyOp::Div, LEAST, 1, LEAST),
+        (MultiplyOp::Divu, LEAST, ONES, 0),
+        (MultiplyOp::Divu, ONES, 0, ONES),
+        (MultiplyOp::Divu, ONES, 1, ONES),
+        (MultiplyOp::Divu, ONES, LEAST, 1),
+        (MultiplyOp::Rem, LEAST, ONES, 0),
+        (MultiplyOp::Rem, LEAST, 0, LEAST),
+        (MultiplyOp::Rem, 0xffff_fff9, 2, ONES),
+        (MultiplyOp::Rem, 7, 0xffff_fffe, 1),
+        (MultiplyOp::Remu, LEAST, ONES, LEAST),
+        (MultiplyOp::Remu, ONES, 0, ONES),
+        (MultiplyOp::Remu, ONES, LEAST, GREATEST),
+    ] {
+        let instr = Instr::Multiply {
+            op,
+            rd: x(3),
+            rs1: x(1),
+            rs2: x(2),
+        };
+        assert_eq!(rt; value(&rt, &mut frames, instr, first, second), expected);
+    }
+    Ok(())
+}
+
+#[test]
+fn immediates(rt: HostRuntime) -> Result<(), Fail> {
+    let mut frames = two_pages(rt.alloc())?;
+    for (op, first, imm, expected) in [
+        (ImmediateOp::Addi, 0, 0, 0),
+        (ImmediateOp::Addi, 0, 0xfff, ONES),
+        (ImmediateOp::Addi, ONES, 1, 0),
+        (ImmediateOp::Addi, GREATEST, 0x7ff, 0x8000_07fe),
+        (ImmediateOp::Addi, 0, 0x800, 0xffff_f800),
+        (ImmediateOp::Slti, LEAST, 0x800, 1),
+        (ImmediateOp::Slti, ONES, 0xfff, 0),
+        (ImmediateOp::Slti, 0, 0x7ff, 1),
+        (ImmediateOp::Sltiu, 5, 0xfff, 1),
+        (ImmediateOp::Sltiu, ONES, 0xfff, 0),
+        (ImmediateOp::Sltiu, 0, 1, 1),
+        (ImmediateOp::Xori, ONES, 0xfff, 0),
+        (ImmediateOp::Xori, 0, 0x7ff, 0x7ff),
+        (ImmediateOp::Ori, LEAST, 0x7ff, 0x8000_07ff),
+        (ImmediateOp::Ori, 0, 0x800, 0xffff_f800),
+        (ImmediateOp::Andi, ONES, 0x800, 0xffff_f800),
+        (ImmediateOp::Andi, ONES, 0, 0),
+    ] {
+        let imm = Bits::<12>::low(imm);
+        let instr = Instr::Immediate {
+            op,
+            rd: x(3),
+            rs1: x(1),
+            imm,
+        };
+        assert_eq!(rt; value(&rt, &mut frames, instr, first, 0), expected);
+    }
+    for (op, first, amount, expected) in [
+        (ShiftOp::Slli, 1, 31, LEAST),
+        (ShiftOp::Slli, ONES, 0, ONES),
+        (ShiftOp::Srli, LEAST, 31, 1),
+        (ShiftOp::Srli, ONES, 0, ONES),
+        (ShiftOp::Srai, LEAST, 31, ONES),
+        (ShiftOp::Srai, GREATEST, 30, 1),
+        (ShiftOp::Srai, LEAST, 0, LEAST),
+    ] {
+        let amount = Bits::<5>::low(amount);
+        let instr = Instr::Shift {
+            op,
+            rd: x(3),
+            rs1: x(1),
+            amount,
+        };
+        assert_eq!(rt; value(&rt, &mut frames, instr, first, 0), expected);
+    }
+    Ok(())
+}
+
+#[test]
+fn upper_immediates_and_fences(rt: HostRuntime) -> Result<(), Fail> {
+    let mut frames = two_pages(rt.alloc())?;
+    let f = &mut frames;
+    for (imm, upper, from_pc) in [
+        (0, 0, PLACE),
+        (0xfffff, 0xffff_f000, 0xf000),
+        (0x80000, LEAST, 0x8001_0000),
+    ] {
+        let imm = Bits::<20>::low(imm);
+        assert_eq!(rt; value(&rt, f, Instr::Lui { rd: x(3), imm }, 0, 0), upper);
+        assert_eq!(rt;
+            value(&rt, f, Instr::Auipc { rd: x(3), imm }, 0, 0),
+            from_pc
+        );
+    }
+    let fence = Instr::Fence {
+        high: Bits::<17>::low(0x1ff),
+        rd: x(3),
+    };
+    assert_eq!(rt; value(&rt, f, fence, 0, 0), 0);
+
+    // x0 stays 0
+    let (outcome, m) = run(
+        f,
+        Instr::Lui {
+            rd: x(0),
+            imm: Bits::<20>::low(1),
+        },
+        0,
+        0,
+    );
+    assert_eq!(rt; (outcome, m.x[0]), (Outcome::Stepped, 0));
+    Ok(())
+}
