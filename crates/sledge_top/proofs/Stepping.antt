@@ -12,7 +12,7 @@ use Rattle.rec_format.specs.declared.recording.Recording.{Recording}
 use Rattle.replay.specs.Calls.{call_of, is_exit, exited}
 use Rattle.replay.specs.Run.{Onward, Goes, Breaks, onward, onward_in, stepped, called, state_after, run_from}
 use Rattle.replay.specs.Breaks.{first_break_from, at_count, listed_break, listed_or, break_after}
-use Rattle.sledge_top.specs.Records.{Tracers, records_from, records_after}
+use Rattle.epoch_run.specs.Records.{Tracers, records_from, records_after}
 
 -- ---- the next instruction
 

@@ -8,7 +8,7 @@ use Rattle.rec_format.specs.declared.recording.Recording.{Recording}
 use Rattle.tracer_lang.specs.declared.record.Record.{Record}
 use Rattle.replay.specs.Run.{onward, Goes, Breaks}
 use Rattle.replay.specs.Breaks.{first_break_from}
-use Rattle.sledge_top.specs.Records.{Tracers, records_from}
+use Rattle.epoch_run.specs.Records.{Tracers, records_from}
 use Rattle.sledge_top.specs.Replay.{IsUnderWay}
 use Rattle.sledge_top.proofs.Stepping.{break_goes, break_breaks, records_goes, run_goes}
 

@@ -2,7 +2,6 @@ pub mod Status
 pub mod Words
 pub mod Orders
 pub mod Answer
-pub mod Records
 pub mod Report
 pub mod Small
 pub mod Replay

@@ -8,7 +8,7 @@ use Rattle.call_log.specs.declared.breaks.Break.{Break}
 use Rattle.tracer_lang.specs.declared.record.Record.{Record}
 use Rattle.replay.specs.Run.{Goes, Breaks, onward, run_from}
 use Rattle.replay.specs.Breaks.{first_break_from}
-use Rattle.sledge_top.specs.Records.{Tracers, records_from}
+use Rattle.epoch_run.specs.Records.{Tracers, records_from}
 
 -- the replay goes on from a state to another, or it breaks there
 abbrev pub GoesOn : Recording → State → State → Bool → Type 0

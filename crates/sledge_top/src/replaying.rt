@@ -7,7 +7,7 @@ ghost use Rattle.sl_model.specs.Step as next;
 ghost use Rattle.rv_machine.specs.Machine.{state_of};
 ghost use Rattle.replay.specs.Calls.{call_of, is_exit, exited};
 ghost use Rattle.replay.specs.Run.{onward};
-ghost use Rattle.sledge_top.specs.Records.{emit_at};
+ghost use Rattle.epoch_run.specs.Records.{emit_at};
 ghost use Rattle.sledge_top.specs.Replay.{GoesOn, CameToEnd, BreaksBefore};
 
 use rec_format::Recording;

@@ -1,7 +1,7 @@
 use Rattle.std.proofs.Common.{Bool, subst, ◌∙◌, arith}
 use Rattle.sl_model.specs.Marks.{MarksGoOn}
 use Rattle.sl_model.specs.MarksLaws.{MarksGoOn-then}
-use Rattle.sledge_top.specs.Records.{emit_at}
+use Rattle.epoch_run.specs.Records.{emit_at}
 use Rattle.sledge_top.proofs.UnderWay.{goes_on_at, breaks_off}
 use Rattle.sledge_top.proofs.replaying.run_to_end.Goals as goal
 

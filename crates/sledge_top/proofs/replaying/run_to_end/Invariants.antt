@@ -1,7 +1,7 @@
 use Rattle.std.proofs.Common.{◌≡◌, ◌-◌}
 use Rattle.sl_model.specs.Marks.{MarksGoOn}
 use Rattle.rv_machine.specs.Machine.{state_of}
-use Rattle.sledge_top.specs.Records.{emit_at}
+use Rattle.epoch_run.specs.Records.{emit_at}
 use Rattle.sledge_top.specs.Replay.{IsUnderWay}
 use Rattle.sledge_top.proofs.replaying.run_to_end.Given as goal
 
