@@ -5,3 +5,7 @@ mod Fields
 pub mod Stepping
 mod UnderWay
 pub mod Mapping
+mod Changes
+mod EndBreaks
+mod Tracing
+mod Flats

@@ -9,6 +9,16 @@ use Rattle.rec_format.specs.declared.fault.RecFault.{RecFault}
 use Rattle.rec_format.specs.Reading.{reading}
 use Rattle.sledge_top.specs.Small.{is_small}
 use Rattle.sledge_top.specs.Words.{Order, TraceAt, read_words}
+use Rattle.sl_model.specs.State.{State}
+use Rattle.elf_image.specs.declared.image.Image.{Image}
+use Rattle.elf_image.specs.declared.fault.ImageFault.{ImageFault}
+use Rattle.elf_image.specs.Flat.{flat_image}
+use Rattle.call_log.specs.declared.breaks.Break.{Break}
+use Rattle.replay.specs.Opening.{opening}
+use Rattle.replay.specs.Run.{run_from}
+use Rattle.replay.specs.Breaks.{first_break}
+use Rattle.epoch_run.specs.Records.{Tracers, emit_at, records}
+use Rattle.sledge_top.specs.Report.{all_lines, report}
 
 infixl 10 ◌>>=◌
 abbrev pub ◌>>=◌ : {A B : Type 0} → Result A Status → (A → Result B Status) → Result B Status
@@ -37,12 +47,45 @@ small_of (Err fault) = Err status.NotBuilt
 abbrev pub small_recording : List ℕ → Result Recording Status
 small_recording bytes = small_of (reading bytes)
 
+-- the image of a program, where it is one
+abbrev pub image_of : Result Image ImageFault → Result Image Status
+image_of (Ok image) = Ok image
+image_of (Err fault) = Err status.NotBuilt
+
+-- the opening state of a recording
+abbrev pub opened : Recording → Result State Status
+opened rec = do
+  image ← image_of (flat_image rec.load_addr rec.image)
+  Ok (opening image rec.args)
+
+-- the register that is recorded: a0
+abbrev pub A0 : ℕ
+A0 = 10
+
+-- the report at the last state of the run, with the analysis `all` over what tracers leave on it
+abbrev pub report_at : Recording → Tracers → State → Option State → Result (List ℕ) Status
+report_at rec tracers first None = Err status.NotBuilt
+report_at rec tracers first (Some last) = Ok (report (all_lines 1 (records rec tracers first)) rec.end last)
+
+-- the report of a recording that is replayed from its opening state, where it does not break
+abbrev pub replayed : Recording → Tracers → State → Option Break → Result (List ℕ) Status
+replayed rec tracers first (Some break) = Err status.NotBuilt
+replayed rec tracers first None = report_at rec tracers first (run_from rec first rec.last.count)
+
+unfoldable pub traced : Recording → ℕ → State → Result (List ℕ) Status
+traced rec address first = replayed rec (emit_at address A0) first (first_break rec first)
+
+abbrev pub report_for : Recording → ℕ → Result (List ℕ) Status
+report_for rec address = do
+  first ← opened rec
+  traced rec address first
+
 -- the text that a command writes to the first output, or how it is refused
 unfoldable pub text_of : Files → Order → Result (List ℕ) Status
 text_of files (TraceAt recording address) = do
   bytes ← file_of files recording RECORDING_LIMIT
   rec ← small_recording bytes
-  Err status.NotBuilt
+  report_for rec address
 
 -- the same from the words
 abbrev pub ordered : Files → Option Order → Result (List ℕ) Status

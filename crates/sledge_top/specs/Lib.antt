@@ -5,3 +5,4 @@ pub mod Answer
 pub mod Report
 pub mod Small
 pub mod Replay
+pub mod Changed

@@ -11,10 +11,11 @@ ghost use Rattle.sledge_top.specs.Answer.{Gives, Ends, text, text_of, outcome};
 use crate::fault_line::write_fault;
 use crate::status::Status;
 use crate::store::file_of;
-use crate::trace::small_recording;
+use crate::trace::{small_recording, trace_at};
 use crate::words::{Order, read_words};
-use sl_base::{Gate, Sink, Store, World, write_all};
+use sl_base::{Brand, Gate, Sink, Store, World, write_all};
 use std::alloc::Global;
+use std::sync::ledger::Blank;
 use std::thread::Threads;
 
 /// The most bytes of a recording.
@@ -31,11 +32,11 @@ fn text_of<S: Store>(alloc: Global, order: Order<'_>, store: &mut S) -> Result<V
     match order {
         Order::TraceAt {
             recording,
-            address: _,
+            address,
         } => {
             let bytes = file_of(alloc, store, recording, RECORDING_LIMIT)?;
-            let _rec = small_recording(alloc, &bytes)?;
-            Err(Status::NotBuilt)
+            let rec = small_recording(alloc, &bytes)?;
+            trace_at::<Brand>(alloc, &rec, address, Blank::new(1))
         }
     }
 }

@@ -3,6 +3,7 @@
 
 mod command;
 mod differ;
+mod ending;
 mod fault_line;
 mod opening;
 mod replaying;

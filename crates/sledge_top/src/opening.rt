@@ -100,7 +100,8 @@ fn heap_limit(start: u32) -> u32
 fn open_machine(addr: u32, len: u32) -> Machine
     requires some { 0 < len }
     requires end { addr + len ≤ MEMORY_END }
-    ensures { (bytes : List ℕ) (pages : Pages) → length bytes ≡ len → pages ≡ opening_pages (one_segment addr bytes) [] → state_of result pages ≡ opening (one_segment addr bytes) [] }
+    ensures state { (bytes : List ℕ) (pages : Pages) → length bytes ≡ len → pages ≡ opening_pages (one_segment addr bytes) [] → state_of result pages ≡ opening (one_segment addr bytes) [] }
+    ensures count { result.count ≡ 0 }
 {
     let start = heap_start(addr, len);
     let mut x = [0; 32];
@@ -127,6 +128,7 @@ pub fn load(alloc: Global, addr: u32, bytes: &[u8]) -> Result<(Machine, Frames),
     requires few { page_count addr (length bytes.now) + STACK_PAGES ≤ 12288 }
     ensures state { IfOk result (λ p. state_of p.0 p.1.pages ≡ opening (one_segment addr bytes.now) []) }
     ensures clean { IfOk result (λ p. p.1.dirty ≡ []) }
+    ensures count { IfOk result (λ p. p.0.count ≡ 0) }
 {
     let mut frames = Frames::new(alloc)?;
     map_memory(&mut frames, addr, bytes.len() as u32)?;

@@ -94,7 +94,7 @@ fn onward<B: Bus, L: Ledger>(
 }
 
 /// Records register a0 where pc is at the address.
-fn fire(
+pub fn fire(
     alloc: Global,
     address: u32,
     m: &Machine,
@@ -134,6 +134,7 @@ pub fn run_to_end<B: Bus, L: Ledger>(
     requires start { m.old.count ≡ 0 }
     ensures end { IfOk result (λ ended. ended ≡ true → CameToEnd rec.now (emit_at address 10) (state_of m.old (B.pages bus.old)) (state_of m.new (B.pages bus.new)) records.old.items records.new.items) }
     ensures broke { IfOk result (λ ended. ended ≡ false → BreaksBefore rec.now (state_of m.old (B.pages bus.old))) }
+    ensures count { IfOk result (λ ended. ended ≡ true → m.new.count ≡ rec.now.last.count) }
     ensures marking { B.is_marking bus.new ≡ B.is_marking bus.old }
     ensures marks { MarksGoOn (B.is_marking bus.old) (B.pages bus.old) (B.marked bus.old) (B.pages bus.new) (B.marked bus.new) }
 {

@@ -2,7 +2,7 @@
 
 ghost use Rattle.std.specs.Prelude.{◌≡◌};
 
-use sl_base::Seq;
+use sl_base::{Memory, Seq};
 use std::alloc::AllocError;
 
 /// How a command ended. Each ending but `Ok` has one line on the second output.
@@ -54,6 +54,17 @@ impl From<AllocError> for Status {
     ghost from_gives = { λ _ e. e ≡ out_of_memory };
 
     fn from(_error: AllocError) -> Status {
+        Status::Memory
+    }
+}
+
+impl From<Memory> for Status {
+    ghost use Rattle.std.specs.Prelude.{◌≡◌};
+    ghost use Rattle.sledge_top.specs.declared.status.Status.TheVariants.{Memory as out_of_memory};
+
+    ghost from_gives = { λ _ e. e ≡ out_of_memory };
+
+    fn from(_error: Memory) -> Status {
         Status::Memory
     }
 }

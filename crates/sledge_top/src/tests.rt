@@ -133,3 +133,16 @@ fn second_output_fails(rt: HostRuntime) -> Result<(), Fail> {
     assert_eq!(rt; err.bytes(), b"sledge: ab".as_slice());
     Ok(())
 }
+
+/// Bytes of a text of hexadecimal digits, of which those that are no digits are passed over.
+fn bytes_of(alloc: Global, text: &str) -> Result<Vec<u8>, Fail> {
+    let mut bytes = Vec::new(alloc);
+    let mut high = None;
+    for digit in text.chars().filter_map(|c| c.to_digit(16)) {
+        match high.take() {
+            None => high = Some(digit as u8),
+            Some(value) => bytes.push(value * 16 + digit as u8)?,
+        }
+    }
+    Ok(bytes)
+}
