@@ -1,6 +1,6 @@
 //! The mapped pages and their dirty list.
 
-ghost use Rattle.std.specs.Prelude.{◌≡◌, ℕ, ◌+◌, ◌-◌, ◌<◌, ◌≤◌, ◌/◌, ◌%◌, ◌^◌, [], length, take, min, if◌then◌else◌, true, is_some, unwrap_or, slice_get, Contains, Some, IsSome, OnOk, OnErr, IfOk, IfSome, IfNone};
+ghost use Rattle.std.specs.Prelude.{◌≡◌, ℕ, ◌+◌, ◌-◌, ◌<◌, ◌≤◌, ◌/◌, ◌%◌, ◌^◌, [], length, take, min, if◌then◌else◌, true, is_some, unwrap_or, slice_get, Contains, Some, None, IsSome, OnOk, OnErr, IfOk, IfSome, IfNone};
 ghost use Rattle.std.specs.Option.{option_copied};
 ghost use Rattle.std.specs.FinMap.{get, len, empty};
 ghost use Rattle.sl_model.specs.Pages.{IsWidth, byte_at, bytes_at, load_at, store_at, low_bytes};
@@ -90,6 +90,17 @@ impl Frames {
     {
         let frame = self.frames.get(&page)?;
         Some(frame.bytes.as_slice())
+    }
+
+    /// The least page from a number on that is mapped, or `None` where there is none.
+    pub fn next_mapped(&self, from: u32) -> Option<u32>
+        ensures none { IfNone result ((page : ℕ) → from ≤ page → get self.now.pages page ≡ None) }
+        ensures above { IfSome result (λ next. from ≤ next) }
+        ensures mapped { IfSome result (λ next. IsSome (get self.now.pages next)) }
+        ensures least { IfSome result (λ next. (page : ℕ) → from ≤ page → page < next → get self.now.pages page ≡ None) }
+    {
+        let (page, _) = self.frames.range(from..).next()?;
+        Some(*page)
     }
 
     /// Writes bytes from an address on, and marks their pages as dirty, as a store does.

@@ -108,3 +108,21 @@ fn walk(frames: &Frames) -> [Option<u32>; 4] {
     }
     pages
 }
+
+#[test]
+fn walks_over_mapped_pages(rt: HostRuntime) -> Result<(), Fail> {
+    let frames = three_pages(rt.alloc())?;
+    for (from, next) in [
+        (0, Some(16)),
+        (16, Some(16)),
+        (17, Some(17)),
+        (18, Some(0xbfffe)),
+        (0xbfffe, Some(0xbfffe)),
+        (0xbffff, None),
+        (0xffff_ffff, None),
+    ] {
+        assert_eq!(rt; frames.next_mapped(from), next);
+    }
+    assert!(rt; Frames::new(rt.alloc())?.next_mapped(0).is_none());
+    Ok(())
+}
