@@ -1,0 +1,3 @@
+pub mod RecordedRun
+pub mod Fields
+pub mod Memory
