@@ -1,0 +1,4 @@
+pub mod Lists
+mod Rows
+pub mod Sound
+pub mod Steps
