@@ -1,2 +1,3 @@
 pub mod Posts
 pub mod Schedule
+pub mod Listed

@@ -1,7 +1,7 @@
 //! The state of all workers, changed by one event at a time.
 
 ghost use Rattle.std.specs.Prelude.{◌≡◌, Some, map, OnOk, OnErr, IfOk};
-ghost use Rattle.epoch_core.specs.Schedule.{start, holds, claim, posted, finished, skip, leave, lowered, low_after, trays_of};
+ghost use Rattle.epoch_core.specs.Schedule.{start, holds, claim, posted, finished, skip, leave, low_after, trays_of};
 
 use crate::post::{Post, PostValue};
 use crate::seat::Seat;
