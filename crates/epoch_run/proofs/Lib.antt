@@ -1,2 +1,4 @@
 mod Counts
 mod Between
+mod Mapped
+mod InRun

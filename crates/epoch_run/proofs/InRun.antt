@@ -1,0 +1,342 @@
+-- What every state of a run has, from the opening state on: 32 registers with x0 being 0, and as mapped pages those of the
+-- opening state and of the heap up to its mapped end.
+use Rattle.std.specs.Prelude.{if◌then◌else◌, ◌||◌, ◌*◌, nat_le, nat_lt, nat_eq, ◌==◌, max, IfSome, is_some, slice_get, slice_set, slice_index}
+use Rattle.std.specs.Option.{option_map}
+use Rattle.std.specs.FinMap.{get}
+use Rattle.std.proofs.Common.{◌≡◌, ℕ, zero, suc, ◌+◌, ◌-◌, ◌/◌, ◌%◌, ◌^◌, ◌<◌, ◌≤◌, Bool, true, false, cond, List, [], ◌∷◌, length, Option, Some, None, get_or, refl, sym, ap, subst, ◌∙◌, arith}
+use Rattle.std.proofs.lemmas.Bool.{and_parts, leb-true, eqb-false}
+use Rattle.std.proofs.lemmas.Bool.Decides.{nat_tests}
+use Rattle.std.proofs.lemmas.List.{get_or-set_other}
+use Rattle.std.proofs.Math.ListN.{length-set}
+use Rattle.sl_model.specs.declared.instr.Instr.{Instr}
+use Rattle.sl_model.specs.declared.instr.Instr.TheVariants.{Lui, Auipc, Jal, Jalr, Branch, Load, Store, Immediate, Shift, Register, Multiply, Fence, Ecall, Ebreak}
+use Rattle.sl_model.specs.declared.instr.LoadOp.{LoadOp}
+use Rattle.sl_model.specs.declared.run_state.RunState.{RunState}
+use Rattle.sl_model.specs.declared.run_state.RunState.TheVariants.{Running, Exited}
+use Rattle.sl_model.specs.Pages.{IsPage, Pages, bytes_at, set_bytes, load_at, store_at, low_bytes}
+use Rattle.sl_model.specs.PagesLaws.{AreWhole, is_some-set_bytes}
+use Rattle.sl_model.specs.Words.{meaning}
+use Rattle.sl_model.specs.Arithmetic.{word_add, branch_word, is_taken}
+use Rattle.sl_model.specs.State.{State, register, set_register}
+use Rattle.sl_model.specs.Step.{Next, Stepped, Called, Trapped, step, execute, execute_word, execute_fetched, put_register, gone_to, after, advance, jump, branch, pass, loaded, load, stored, store}
+use Rattle.call_log.specs.declared.entry.CallEntry.{CallEntry}
+use Rattle.rec_format.specs.declared.recording.Recording.{Recording}
+use Rattle.replay.specs.Opening.{map_pages, round_up}
+use Rattle.replay.specs.Calls.{FieldDiff, call_of, call_diff, is_exit, exited, answered, is_outside, data_done, call_done, brk_done, brk_mapped_end, is_break, arg, buffer, brk_number}
+use Rattle.replay.specs.Run.{Onward, Goes, Breaks, onward, onward_in, stepped, call, called, matched}
+use Rattle.sl_base.specs.declared.call.Call.{Call}
+use Rattle.sl_base.specs.World.{write_number}
+use Rattle.epoch_run.specs.Opened.{IsOpened}
+use Rattle.epoch_run.proofs.Mapped.{is_among, get-map_pages, is_some-or_zeros, AreWhole-map_pages, AreWhole-set_bytes}
+
+-- the pages of a program that was opened so, with this end of the mapped heap
+abbrev pub is_mapped : State → ℕ → ℕ → Bool
+is_mapped opened brk_end number = is_some (get opened.pages number) || is_among (opened.brk_start / 4096) (brk_end / 4096) number
+
+pub record IsInRun (opened s : State) : Type 0 where
+  pub registers : length s.x ≡ 32
+  pub zero : register s 0 ≡ 0
+  pub whole : AreWhole s.pages
+  pub start : s.brk_start ≡ opened.brk_start
+  pub limit : s.heap_limit ≡ opened.heap_limit
+  pub end_page : s.brk_end % 4096 ≡ 0
+  pub end_from : opened.brk_start ≤ s.brk_end
+  pub end_to : s.brk_end ≤ opened.heap_limit
+  pub mapped : (number : ℕ) → is_some (get s.pages number) ≡ is_mapped opened s.brk_end number
+
+no_heap : (opened : State) (number : ℕ) → opened.brk_end ≡ opened.brk_start → is_some (get opened.pages number) ≡ is_mapped opened opened.brk_end number
+no_heap opened number same =
+    let none : is_among (opened.brk_start / 4096) (opened.brk_end / 4096) number ≡ false = rw same (grind (arith, nat_tests)) in
+    rw none (or_none (is_some (get opened.pages number)))
+  where
+    or_none : (b : Bool) → b ≡ (b || false)
+    or_none true = refl
+    or_none false = refl
+
+whole_pages : (opened : State) → IsOpened opened → AreWhole opened.pages
+whole_pages opened is number = of (get opened.pages number) (is.pages number)
+  where
+    of : (page : Option (List ℕ)) → IfSome page (λ p. (number < 2 ^ 20) × IsPage p) → IfSome page (λ p. length p ≡ 4096)
+    of None is = tt
+    of (Some page) is = is.1.whole
+
+pub IsInRun-opened : (opened : State) → IsOpened opened → IsInRun opened opened
+IsInRun-opened opened is = record {
+  registers = is.registers;
+  zero = is.zero;
+  whole = whole_pages opened is;
+  start = refl;
+  limit = refl;
+  end_page = rw is.heap is.start;
+  end_from = omega (arith, is.heap);
+  end_to = omega (arith, is.heap, is.ordered);
+  mapped = λ number. no_heap opened number is.heap;
+}
+
+-- ---- instructions but calls
+
+-- what an instruction may change
+pub record IsNext (s t : State) : Type 0 where
+  pub count : t.count ≡ s.count + 1
+  pub registers : length t.x ≡ length s.x
+  pub zero : register t 0 ≡ register s 0
+  pub whole : AreWhole s.pages → AreWhole t.pages
+  pub start : t.brk_start ≡ s.brk_start
+  pub limit : t.heap_limit ≡ s.heap_limit
+  pub brk_end : t.brk_end ≡ s.brk_end
+  pub mapped : (number : ℕ) → is_some (get t.pages number) ≡ is_some (get s.pages number)
+
+abbrev LeadsOn : State → Next → Type 0
+LeadsOn s (Stepped t) = IsNext s t
+LeadsOn s Called = Unit {0}
+LeadsOn s (Trapped number) = Unit {0}
+
+length-set_register : (x : List ℕ) (r value : ℕ) → length (set_register x r value) ≡ length x
+length-set_register x r value = chosen (nat_eq r 0)
+  where
+    chosen : (b : Bool) → length (if b then x else slice_set x r value) ≡ length x
+    chosen true = refl
+    chosen false = length-set x r value
+
+zero-set_register : (x : List ℕ) (r value : ℕ) → slice_index (set_register x r value) 0 ≡ slice_index x 0
+zero-set_register x r value = chosen (nat_eq r 0) refl
+  where
+    chosen : (b : Bool) → nat_eq r 0 ≡ b → slice_index (if b then x else slice_set x r value) 0 ≡ slice_index x 0
+    chosen true is = refl
+    chosen false is = get_or-set_other x r 0 value 0 (λ same. eqb-false r 0 is (sym same))
+
+goes : (s : State) (rd value pc : ℕ) → IsNext s (gone_to (put_register s rd value) pc)
+goes s rd value pc = record {
+  count = refl;
+  registers = length-set_register s.x rd value;
+  zero = zero-set_register s.x rd value;
+  whole = λ whole. whole;
+  start = refl;
+  limit = refl;
+  brk_end = refl;
+  mapped = λ number. refl;
+}
+
+goes_plainly : (s : State) (pc : ℕ) → IsNext s (gone_to s pc)
+goes_plainly s pc = record { count = refl; registers = refl; zero = refl; whole = λ whole. whole; start = refl; limit = refl; brk_end = refl; mapped = λ number. refl }
+
+goes_with_bytes : (s : State) (address : ℕ) (bytes : List ℕ) (pc : ℕ) → IsNext s (gone_to (record s { pages = set_bytes s.pages address bytes }) pc)
+goes_with_bytes s address bytes pc = record {
+  count = refl;
+  registers = refl;
+  zero = refl;
+  whole = AreWhole-set_bytes s.pages address bytes;
+  start = refl;
+  limit = refl;
+  brk_end = refl;
+  mapped = λ number. is_some-set_bytes s.pages address bytes number;
+}
+
+either : (s : State) (b : Bool) (x y : Next) → LeadsOn s x → LeadsOn s y → LeadsOn s (if b then x else y)
+either s true x y first second = first
+either s false x y first second = second
+
+LeadsOn-jump : (s : State) (rd target : ℕ) → LeadsOn s (jump s rd target)
+LeadsOn-jump s rd target = either s (nat_eq (target % 4) 0) _ _ (goes s rd (after s) target) tt
+
+LeadsOn-branch : (s : State) (target : ℕ) → LeadsOn s (branch s target)
+LeadsOn-branch s target = either s (nat_eq (target % 4) 0) _ _ (goes_plainly s target) tt
+
+LeadsOn-loaded : (s : State) (op : LoadOp) (rd : ℕ) (o : Option ℕ) → LeadsOn s (loaded s op rd o)
+LeadsOn-loaded s op rd None = tt
+LeadsOn-loaded s op rd (Some n) = goes s rd _ _
+
+LeadsOn-stored : (s : State) (address : ℕ) (bytes : List ℕ) (o : Option (List ℕ)) → LeadsOn s (stored s (option_map (λ _. set_bytes s.pages address bytes) o))
+LeadsOn-stored s address bytes None = tt
+LeadsOn-stored s address bytes (Some old) = goes_with_bytes s address bytes (after s)
+
+LeadsOn-chosen : (s : State) (taken : Bool) (target : ℕ) → LeadsOn s (if taken then branch s target else pass s)
+LeadsOn-chosen s taken target = either s taken (branch s target) (pass s) (LeadsOn-branch s target) (goes_plainly s (after s))
+
+LeadsOn-execute : (s : State) (instr : Instr) → LeadsOn s (execute s instr)
+unfolding execute store_at
+LeadsOn-execute s (Lui rd imm) = goes s rd _ _
+LeadsOn-execute s (Auipc rd imm) = goes s rd _ _
+LeadsOn-execute s (Jal rd offset) = LeadsOn-jump s rd _
+LeadsOn-execute s (Jalr rd rs1 offset) = LeadsOn-jump s rd _
+LeadsOn-execute s (Branch op rs1 rs2 offset) = LeadsOn-chosen s (is_taken op (register s rs1) (register s rs2)) (word_add s.pc (branch_word offset))
+LeadsOn-execute s (Load op rd rs1 offset) = LeadsOn-loaded s op rd _
+LeadsOn-execute s (Store op rs1 rs2 offset) = LeadsOn-stored s _ _ _
+LeadsOn-execute s (Immediate op rd rs1 imm) = goes s rd _ _
+LeadsOn-execute s (Shift op rd rs1 amount) = goes s rd _ _
+LeadsOn-execute s (Register op rd rs1 rs2) = goes s rd _ _
+LeadsOn-execute s (Multiply op rd rs1 rs2) = goes s rd _ _
+LeadsOn-execute s (Fence high rd) = goes_plainly s (after s)
+LeadsOn-execute s Ecall = tt
+LeadsOn-execute s Ebreak = tt
+
+LeadsOn-word : (s : State) (instr : Option Instr) → LeadsOn s (execute_word s instr)
+LeadsOn-word s None = tt
+LeadsOn-word s (Some instr) = LeadsOn-execute s instr
+
+LeadsOn-fetched : (s : State) (word : Option ℕ) → LeadsOn s (execute_fetched s word)
+LeadsOn-fetched s None = tt
+LeadsOn-fetched s (Some word) = LeadsOn-word s (meaning word)
+
+LeadsOn-step : (s : State) → LeadsOn s (step s)
+unfolding step
+LeadsOn-step s = either s (nat_eq (s.pc % 4) 0) _ _ (LeadsOn-fetched s (load_at s.pages s.pc 4)) tt
+
+-- a state that differs so from one of the run is one of the run
+IsInRun-next : (opened s t : State) → IsInRun opened s → IsNext s t → IsInRun opened t
+IsInRun-next opened s t is next = record {
+  registers = next.registers ∙ is.registers;
+  zero = next.zero ∙ is.zero;
+  whole = next.whole is.whole;
+  start = next.start ∙ is.start;
+  limit = next.limit ∙ is.limit;
+  end_page = rw next.brk_end is.end_page;
+  end_from = rw next.brk_end is.end_from;
+  end_to = rw next.brk_end is.end_to;
+  mapped = λ number. next.mapped number ∙ is.mapped number ∙ ap (λ n. is_mapped opened n number) (sym next.brk_end);
+}
+
+-- ---- calls
+
+or_assoc : (a b c : Bool) → ((a || b) || c) ≡ (a || (b || c))
+or_assoc true b c = refl
+or_assoc false b c = refl
+
+-- the heap after a break
+heap_grows : (start old new number : ℕ) → start ≤ old → old ≤ new → is_among (start / 4096) (new / 4096) number ≡ (is_among (start / 4096) (old / 4096) number || is_among (old / 4096) (new / 4096) number)
+heap_grows start old new number first second =
+    let below : start / 4096 ≤ old / 4096 = omega arith in
+    let above : old / 4096 ≤ new / 4096 = omega arith in
+    pages_grow (start / 4096) (old / 4096) (new / 4096) number below above
+  where
+    pages_grow : (a b c n : ℕ) → a ≤ b → b ≤ c → is_among a c n ≡ (is_among a b n || is_among b c n)
+    pages_grow a b c n below above = grind (arith, nat_tests)
+
+record IsNewEnd (s : State) (limit new : ℕ) : Type 0 where
+  page : new % 4096 ≡ 0
+  from : s.brk_end ≤ new
+  to : new ≤ limit
+
+new_end : (s : State) (address : ℕ) (allowed : Bool) → is_break s address ≡ allowed → s.brk_end % 4096 ≡ 0 → s.heap_limit % 4096 ≡ 0 → s.brk_end ≤ s.heap_limit → IsNewEnd s s.heap_limit (if allowed then max s.brk_end (round_up 4096 address) else s.brk_end)
+new_end s address false is page limit below = record { page = page; from = omega arith; to = below }
+new_end s address true is page limit below =
+    let within : address ≤ s.heap_limit = leb-true address s.heap_limit (and_parts (nat_le s.brk_start address) (nat_le address s.heap_limit) is).1 in
+    record { page = omega arith; from = omega arith; to = omega arith }
+
+IsInRun-brk : (opened s : State) (address : ℕ) → IsOpened opened → IsInRun opened s → IsInRun opened (brk_done s address)
+IsInRun-brk opened s address opens is =
+    let end = new_end s address (is_break s address) refl is.end_page (rw is.limit opens.limit) (rw is.limit is.end_to) in
+    let new : ℕ = brk_mapped_end s address in
+    let to : s.brk_end / 4096 + (new / 4096 - s.brk_end / 4096) ≡ new / 4096 = omega (arith, end.from) in
+    record {
+      registers = is.registers;
+      zero = is.zero;
+      whole = AreWhole-map_pages s.pages (s.brk_end / 4096) (new / 4096 - s.brk_end / 4096) is.whole;
+      start = is.start;
+      limit = is.limit;
+      end_page = end.page;
+      end_from = omega (arith, is.end_from, end.from);
+      end_to = omega (arith, is.limit, end.to);
+      mapped = λ number. ap is_some (get-map_pages s.pages (s.brk_end / 4096) (new / 4096 - s.brk_end / 4096) number)
+          ∙ is_some-or_zeros (get s.pages number) (is_among (s.brk_end / 4096) (s.brk_end / 4096 + (new / 4096 - s.brk_end / 4096)) number)
+          ∙ ap (λ n. is_some (get s.pages number) || is_among (s.brk_end / 4096) n number) to
+          ∙ ap (λ b. b || is_among (s.brk_end / 4096) (new / 4096) number) (is.mapped number)
+          ∙ or_assoc (is_some (get opened.pages number)) (is_among (opened.brk_start / 4096) (s.brk_end / 4096) number) (is_among (s.brk_end / 4096) (new / 4096) number)
+          ∙ ap (λ b. is_some (get opened.pages number) || b) (sym (heap_grows opened.brk_start s.brk_end new number is.end_from end.from));
+    }
+
+-- the bytes that a call brings
+IsInRun-bytes : (opened s : State) (address : ℕ) (bytes : List ℕ) → IsInRun opened s → IsInRun opened (record s { pages = set_bytes s.pages address bytes })
+IsInRun-bytes opened s address bytes is = record {
+  registers = is.registers;
+  zero = is.zero;
+  whole = AreWhole-set_bytes s.pages address bytes is.whole;
+  start = is.start;
+  limit = is.limit;
+  end_page = is.end_page;
+  end_from = is.end_from;
+  end_to = is.end_to;
+  mapped = λ number. is_some-set_bytes s.pages address bytes number ∙ is.mapped number;
+}
+
+one_of : (opened : State) (b : Bool) (s t : State) → IsInRun opened s → IsInRun opened t → IsInRun opened (if b then s else t)
+one_of opened true s t first second = first
+one_of opened false s t first second = second
+
+IsInRun-call : (opened s : State) (call : Call) (bytes : List ℕ) → IsOpened opened → IsInRun opened s → IsInRun opened (call_done s call bytes)
+IsInRun-call opened s call bytes opens is =
+    one_of opened (is_outside call) (data_done s call bytes) (if call.number == brk_number then brk_done s (arg call 0) else s)
+    (one_of opened (call.number == write_number) s (record s { pages = set_bytes s.pages (buffer call) bytes }) is (IsInRun-bytes opened s (buffer call) bytes is))
+    (one_of opened (call.number == brk_number) (brk_done s (arg call 0)) s (IsInRun-brk opened s (arg call 0) opens is) is)
+
+-- neither does it matter which call is next and whether the program runs
+IsInRun-next_call : (opened s : State) (n : ℕ) → IsInRun opened s → IsInRun opened (record s { next_call = n })
+IsInRun-next_call opened s n is = record { registers = is.registers; zero = is.zero; whole = is.whole; start = is.start; limit = is.limit; end_page = is.end_page; end_from = is.end_from; end_to = is.end_to; mapped = is.mapped }
+
+IsInRun-status : (opened s : State) (status : RunState) → IsInRun opened s → IsInRun opened (record s { status = status })
+IsInRun-status opened s status is = record { registers = is.registers; zero = is.zero; whole = is.whole; start = is.start; limit = is.limit; end_page = is.end_page; end_from = is.end_from; end_to = is.end_to; mapped = is.mapped }
+
+count-if : (b : Bool) (s t : State) (n : ℕ) → s.count ≡ n → t.count ≡ n → (if b then s else t).count ≡ n
+count-if true s t n first second = first
+count-if false s t n first second = second
+
+count-call : (s : State) (call : Call) (bytes : List ℕ) → (call_done s call bytes).count ≡ s.count
+count-call s call bytes =
+    count-if (is_outside call) (data_done s call bytes) (if call.number == brk_number then brk_done s (arg call 0) else s) s.count
+    (count-if (call.number == write_number) s (record s { pages = set_bytes s.pages (buffer call) bytes }) s.count refl refl)
+    (count-if (call.number == brk_number) (brk_done s (arg call 0)) s s.count refl refl)
+
+-- ---- every instruction
+
+-- what every instruction of a run leads to
+pub record GoesOn (opened s t : State) : Type 0 where
+  pub in_run : IsInRun opened t
+  pub count : t.count ≡ s.count + 1
+
+abbrev IsKept : State → State → Onward → Type 0
+IsKept opened s (Goes t) = GoesOn opened s t
+IsKept opened s (Breaks kind) = Unit {0}
+
+kept_exit : (opened s : State) → IsInRun opened s → GoesOn opened s (exited s)
+kept_exit opened s is = record {
+  in_run = IsInRun-status opened (gone_to s (after s)) (Exited (register s 10)) (IsInRun-next opened s (gone_to s (after s)) is (goes_plainly s (after s)));
+  count = refl;
+}
+
+kept_answer : (opened s : State) (entry : CallEntry) → IsOpened opened → IsInRun opened s → GoesOn opened s (answered s entry)
+kept_answer opened s entry opens is =
+    let done : State = call_done s (call_of s) entry.bytes in
+    let next : State = gone_to (put_register done 10 entry.result) (after s) in
+    record {
+      in_run = IsInRun-next_call opened next (s.next_call + 1) (IsInRun-next opened done next (IsInRun-call opened s (call_of s) entry.bytes opens is) (goes done 10 entry.result (after s)));
+      count = ap (λ n. n + 1) (count-call s (call_of s) entry.bytes);
+    }
+
+kept_matched : (opened s : State) (entry : CallEntry) (diff : Option FieldDiff) → IsOpened opened → IsInRun opened s → IsKept opened s (matched s entry diff)
+kept_matched opened s entry None opens is = kept_answer opened s entry opens is
+kept_matched opened s entry (Some diff) opens is = tt
+
+kept_called : (opened s : State) (entry : Option CallEntry) → IsOpened opened → IsInRun opened s → IsKept opened s (called s entry)
+kept_called opened s None opens is = tt
+kept_called opened s (Some entry) opens is = kept_matched opened s entry (call_diff s entry) opens is
+
+kept_if : (opened s : State) (b : Bool) (x y : Onward) → IsKept opened s x → IsKept opened s y → IsKept opened s (if b then x else y)
+kept_if opened s true x y first second = first
+kept_if opened s false x y first second = second
+
+kept_step : (rec : Recording) (opened s : State) (next : Next) → IsOpened opened → IsInRun opened s → LeadsOn s next → IsKept opened s (stepped rec s next)
+kept_step rec opened s (Stepped t) opens is leads = record { in_run = IsInRun-next opened s t is leads; count = leads.count }
+kept_step rec opened s Called opens is leads =
+    kept_if opened s (is_exit (call_of s)) (Goes (exited s)) (called s (slice_get rec.calls s.next_call)) (kept_exit opened s is) (kept_called opened s (slice_get rec.calls s.next_call) opens is)
+kept_step rec opened s (Trapped number) opens is leads = tt
+
+kept_in : (rec : Recording) (opened s : State) (status : RunState) → IsOpened opened → IsInRun opened s → IsKept opened s (onward_in rec s status)
+kept_in rec opened s Running opens is = kept_step rec opened s (step s) opens is (LeadsOn-step s)
+kept_in rec opened s (Exited code) opens is = tt
+
+kept : (rec : Recording) (opened s : State) → IsOpened opened → IsInRun opened s → IsKept opened s (onward rec s)
+unfolding onward
+kept rec opened s opens is = kept_in rec opened s s.status opens is
+
+pub IsInRun-onward : (rec : Recording) (opened s t : State) → IsOpened opened → IsInRun opened s → onward rec s ≡ Goes t → GoesOn opened s t
+IsInRun-onward rec opened s t opens is goes = subst (IsKept opened s) goes (kept rec opened s opens is)
