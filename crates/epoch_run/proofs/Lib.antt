@@ -2,3 +2,4 @@ mod Counts
 mod Between
 mod Mapped
 mod InRun
+mod Recorded
