@@ -3,3 +3,4 @@ mod Between
 mod Mapped
 mod InRun
 mod Recorded
+mod SameState
