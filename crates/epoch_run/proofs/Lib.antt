@@ -4,3 +4,4 @@ mod Mapped
 mod InRun
 mod Recorded
 mod SameState
+mod Joined
