@@ -5,3 +5,4 @@ mod InRun
 mod Recorded
 mod SameState
 mod Joined
+mod Arrived
