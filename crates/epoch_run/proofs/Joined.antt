@@ -93,7 +93,7 @@ break-at opened rec a b c m s None Running is opens cut runs count same running 
 
 -- ---- up to b's count, and on from there
 
-break-joined : (opened : State) (rec : Recording) (a b c n m all : ℕ) (s : State) → IsRecordingValue rec → IsOpened opened → IsCut rec a b c → IsInRun opened s → s.count + n ≡ recorded_count rec b → 0 < m → all ≡ n + m
+pub break-joined : (opened : State) (rec : Recording) (a b c n m all : ℕ) (s : State) → IsRecordingValue rec → IsOpened opened → IsCut rec a b c → IsInRun opened s → s.count + n ≡ recorded_count rec b → 0 < m → all ≡ n + m
     → epoch_break_from opened.pages rec a c s all ≡ (epoch_break_from opened.pages rec a b s n else_try epoch_break_from opened.pages rec b c (recorded_state rec opened b) m)
 unfolding epoch_break_from
 break-joined opened rec a b c zero zero all s is opens cut runs count some sum = absurd (omega arith)

@@ -6,3 +6,4 @@ mod Recorded
 mod SameState
 mod Joined
 mod Arrived
+mod OneRun

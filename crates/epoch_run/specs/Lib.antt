@@ -1,3 +1,4 @@
 pub mod Records
 pub mod Epochs
 pub mod Opened
+pub mod EpochLaws

@@ -1,0 +1,52 @@
+-- Why the epochs of a cutting are the one run.
+use Rattle.std.specs.Prelude.{◌≡◌, ℕ, ◌+◌, ◌-◌, ◌<◌, ◌≤◌, ◌↔◌, List, length, Option, Some, None, slice_index}
+use Rattle.std.specs.List.{flat_map, range_with_len}
+use Rattle.sl_model.specs.State.{State}
+use Rattle.call_log.specs.declared.breaks.Break.{Break}
+use Rattle.rec_format.specs.declared.recording.Recording.{Recording}
+use Rattle.tracer_lang.specs.declared.record.Record.{Record}
+use Rattle.replay.specs.Run.{run_from}
+use Rattle.replay.specs.Breaks.{first_break}
+use Rattle.replay.specs.Calls.{◌else_try◌}
+use Rattle.replay.specs.Recorded.{recorded_state, recorded_count}
+use Rattle.epoch_run.specs.Records.{Tracers, records}
+use Rattle.epoch_run.specs.Epochs.{epoch_break, epoch_records}
+
+-- ---- the epochs of a cutting, from each place to the next
+
+abbrev pub epochs_of : List ℕ → ℕ
+epochs_of places = length places - 1
+
+-- the first break of epoch k
+abbrev pub break_of : Recording → State → List ℕ → ℕ → Option Break
+break_of rec opened places k = epoch_break rec opened (slice_index places k) (slice_index places (k + 1))
+
+-- its records
+abbrev pub records_of : Recording → State → Tracers → List ℕ → ℕ → List Record
+records_of rec opened tracers places k = epoch_records rec opened tracers (slice_index places k) (slice_index places (k + 1))
+
+-- none of the first n epochs breaks
+abbrev pub NoneBreaks : Recording → State → List ℕ → ℕ → Type 0
+NoneBreaks rec opened places n = (k : ℕ) → k < n → break_of rec opened places k ≡ None
+
+-- ---- one run
+
+-- where no epoch before it breaks, an epoch starts at the state of the run
+abbrev pub StartsOnTheRun : Recording → State → List ℕ → Type 0
+StartsOnTheRun rec opened places =
+    (k : ℕ) → k < epochs_of places → NoneBreaks rec opened places k
+    → run_from rec opened (recorded_count rec (slice_index places k)) ≡ Some (recorded_state rec opened (slice_index places k))
+
+-- the least epoch with a break has the first break
+abbrev pub LeastBreakIsFirst : Recording → State → List ℕ → Type 0
+LeastBreakIsFirst rec opened places =
+    (k : ℕ) (broken : Break) → k < epochs_of places → NoneBreaks rec opened places k → break_of rec opened places k ≡ Some broken → first_break rec opened ≡ Some broken
+
+-- no epoch breaks exactly where the run does not
+abbrev pub BreaksWithTheRun : Recording → State → List ℕ → Type 0
+BreaksWithTheRun rec opened places = NoneBreaks rec opened places (epochs_of places) ↔ (first_break rec opened ≡ None)
+
+-- where none breaks, the records of the epochs in order are those of the run
+abbrev pub RecordsOfTheRun : Recording → State → Tracers → List ℕ → Type 0
+RecordsOfTheRun rec opened tracers places =
+    NoneBreaks rec opened places (epochs_of places) → flat_map (records_of rec opened tracers places) (range_with_len 0 (epochs_of places)) ≡ records rec tracers opened
