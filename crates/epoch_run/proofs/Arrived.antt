@@ -1,11 +1,9 @@
 -- An epoch that does not break comes to the recorded state of its second checkpoint, and its records go on from there.
-use Rattle.std.specs.Prelude.{if◌then◌else◌, ◌==◌}
-use Rattle.std.proofs.Common.{◌≡◌, ℕ, zero, suc, ◌+◌, ◌-◌, ◌<◌, ◌≤◌, Bool, true, false, List, [], ◌++◌, length, Option, Some, None, refl, sym, ap, subst, ◌∙◌, append_assoc, arith, ne_eqb}
+use Rattle.std.proofs.Common.{◌≡◌, ℕ, zero, suc, ◌+◌, ◌<◌, List, [], ◌++◌, Option, Some, None, refl, sym, ap, ◌∙◌, append_assoc, arith, ne_eqb}
 use Rattle.sl_model.specs.declared.run_state.RunState.{RunState}
 use Rattle.sl_model.specs.declared.run_state.RunState.TheVariants.{Running, Exited}
 use Rattle.sl_model.specs.Pages.{Pages}
 use Rattle.sl_model.specs.State.{State}
-use Rattle.call_log.specs.declared.breaks.Break.{Break}
 use Rattle.call_log.specs.declared.breaks.BreakKind.{BreakKind}
 use Rattle.tracer_lang.specs.declared.record.Record.{Record}
 use Rattle.rec_format.specs.Rules.{IsRecordingValue}
@@ -15,7 +13,7 @@ use Rattle.replay.specs.Run.{Onward, Goes, Breaks, onward, state_after, run_from
 use Rattle.replay.specs.Breaks.{PartDiff, checkpoint_diff, checkpoint_break, as_checkpoint_break, listed_break, at_count, listed_or, break_after}
 use Rattle.replay.specs.Recorded.{checkpoint_at, recorded_state, recorded_count}
 use Rattle.epoch_run.specs.Records.{Tracers, records_after}
-use Rattle.epoch_run.specs.Epochs.{end_place, between, early_exit, closing_break, epoch_break_from, closing_records, epoch_records_from}
+use Rattle.epoch_run.specs.Epochs.{end_place, between, early_exit, closing_break, epoch_break_from, epoch_records_from}
 use Rattle.epoch_run.specs.Opened.{IsOpened}
 use Rattle.epoch_run.proofs.InRun.{IsInRun, IsInRun-onward}
 use Rattle.epoch_run.proofs.SameState.{same_state}

@@ -46,7 +46,7 @@ between-split rec a (suc b) c below above within =
     let behind : b + 1 ≡ suc b = omega arith in
     let whole : drop b rec.checkpoints ≡ get_or rec.checkpoints b rec.last ∷ drop (suc b) rec.checkpoints = drop_more rec.checkpoints b rec.last listed ∙ ap (λ n. get_or rec.checkpoints b rec.last ∷ drop n rec.checkpoints) behind in
     let tail : drop first (drop a rec.checkpoints) ≡ checkpoint_at rec (suc b) ∷ drop (suc b) rec.checkpoints =
-        drop-drop first a rec.checkpoints ∙ ap (λ n. drop n rec.checkpoints) reached ∙ whole ∙ ap (λ c. c ∷ drop (suc b) rec.checkpoints) (sym (checkpoint_at-suc rec b)) in
+    drop-drop first a rec.checkpoints ∙ ap (λ n. drop n rec.checkpoints) reached ∙ whole ∙ ap (λ c. c ∷ drop (suc b) rec.checkpoints) (sym (checkpoint_at-suc rec b)) in
     ap (λ n. take n (drop a rec.checkpoints)) sum ∙ take-add first (suc rest) (drop a rec.checkpoints) ∙ ap (λ xs. take first (drop a rec.checkpoints) ++ take (suc rest) xs) tail
 
 -- ---- what of them is compared at a state

@@ -71,6 +71,6 @@ counts_rise rec a zero is some below within = absurd (omega arith)
 counts_rise rec a (suc b) is some below within = ⊎_elim
     (λ (listed : b < length rec.checkpoints). rw (recorded_count-suc rec b) (rises_to rec a b is some below listed))
     (λ (past : length rec.checkpoints ≤ b).
-      let last : (get_or rec.checkpoints b rec.last).count ≡ rec.last.count = ap (λ (c : CheckpointData). c.count) (get_or_past rec.checkpoints b rec.last past) in
-      rw (recorded_count-suc rec b, last) (rises_to_end rec a is some (omega arith)))
+    let last : (get_or rec.checkpoints b rec.last).count ≡ rec.last.count = ap (λ (c : CheckpointData). c.count) (get_or_past rec.checkpoints b rec.last past) in
+    rw (recorded_count-suc rec b, last) (rises_to_end rec a is some (omega arith)))
     (cases_lt b (length rec.checkpoints))

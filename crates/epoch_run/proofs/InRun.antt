@@ -1,9 +1,9 @@
 -- What every state of a run has, from the opening state on: 32 registers with x0 being 0, and as mapped pages those of the
 -- opening state and of the heap up to its mapped end.
-use Rattle.std.specs.Prelude.{if◌then◌else◌, ◌||◌, ◌*◌, nat_le, nat_lt, nat_eq, ◌==◌, max, IfSome, is_some, slice_get, slice_set, slice_index}
+use Rattle.std.specs.Prelude.{if◌then◌else◌, ◌||◌, nat_le, nat_eq, ◌==◌, max, IfSome, is_some, slice_get, slice_set, slice_index}
 use Rattle.std.specs.Option.{option_map}
 use Rattle.std.specs.FinMap.{get}
-use Rattle.std.proofs.Common.{◌≡◌, ℕ, zero, suc, ◌+◌, ◌-◌, ◌/◌, ◌%◌, ◌^◌, ◌<◌, ◌≤◌, Bool, true, false, cond, List, [], ◌∷◌, length, Option, Some, None, get_or, refl, sym, ap, subst, ◌∙◌, arith}
+use Rattle.std.proofs.Common.{◌≡◌, ℕ, ◌+◌, ◌-◌, ◌/◌, ◌%◌, ◌^◌, ◌<◌, ◌≤◌, Bool, true, false, List, length, Option, Some, None, refl, sym, ap, subst, ◌∙◌, arith}
 use Rattle.std.proofs.lemmas.Bool.{and_parts, leb-true, eqb-false}
 use Rattle.std.proofs.lemmas.Bool.Decides.{nat_tests}
 use Rattle.std.proofs.lemmas.List.{get_or-set_other}
@@ -13,15 +13,15 @@ use Rattle.sl_model.specs.declared.instr.Instr.TheVariants.{Lui, Auipc, Jal, Jal
 use Rattle.sl_model.specs.declared.instr.LoadOp.{LoadOp}
 use Rattle.sl_model.specs.declared.run_state.RunState.{RunState}
 use Rattle.sl_model.specs.declared.run_state.RunState.TheVariants.{Running, Exited}
-use Rattle.sl_model.specs.Pages.{IsPage, Pages, bytes_at, set_bytes, load_at, store_at, low_bytes}
+use Rattle.sl_model.specs.Pages.{IsPage, set_bytes, load_at, store_at}
 use Rattle.sl_model.specs.PagesLaws.{AreWhole, is_some-set_bytes}
 use Rattle.sl_model.specs.Words.{meaning}
 use Rattle.sl_model.specs.Arithmetic.{word_add, branch_word, is_taken}
 use Rattle.sl_model.specs.State.{State, register, set_register}
-use Rattle.sl_model.specs.Step.{Next, Stepped, Called, Trapped, step, execute, execute_word, execute_fetched, put_register, gone_to, after, advance, jump, branch, pass, loaded, load, stored, store}
+use Rattle.sl_model.specs.Step.{Next, Stepped, Called, Trapped, step, execute, execute_word, execute_fetched, put_register, gone_to, after, jump, branch, pass, loaded, stored}
 use Rattle.call_log.specs.declared.entry.CallEntry.{CallEntry}
 use Rattle.rec_format.specs.declared.recording.Recording.{Recording}
-use Rattle.replay.specs.Opening.{map_pages, round_up}
+use Rattle.replay.specs.Opening.{round_up}
 use Rattle.replay.specs.Calls.{FieldDiff, call_of, call_diff, is_exit, exited, answered, is_outside, data_done, call_done, brk_done, brk_mapped_end, is_break, arg, buffer, brk_number}
 use Rattle.replay.specs.Run.{Onward, Goes, Breaks, onward, onward_in, stepped, call, called, matched}
 use Rattle.sl_base.specs.declared.call.Call.{Call}

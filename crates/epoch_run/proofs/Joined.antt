@@ -1,6 +1,5 @@
 -- An epoch is its first part, and then its second part from the recorded state between them.
-use Rattle.std.specs.Prelude.{if◌then◌else◌, ◌==◌}
-use Rattle.std.proofs.Common.{◌≡◌, ℕ, zero, suc, ◌+◌, ◌-◌, ◌<◌, ◌≤◌, Bool, true, false, List, [], ◌++◌, length, Option, Some, None, refl, sym, ap, subst, ◌∙◌, append_assoc, arith, ne_eqb}
+use Rattle.std.proofs.Common.{◌≡◌, ℕ, zero, suc, ◌+◌, ◌<◌, ◌≤◌, Option, Some, None, refl, sym, ap, ◌∙◌, arith, ne_eqb}
 use Rattle.sl_model.specs.declared.run_state.RunState.{RunState}
 use Rattle.sl_model.specs.declared.run_state.RunState.TheVariants.{Running, Exited}
 use Rattle.sl_model.specs.Pages.{Pages}
@@ -8,20 +7,16 @@ use Rattle.sl_model.specs.State.{State}
 use Rattle.call_log.specs.declared.breaks.Break.{Break}
 use Rattle.call_log.specs.declared.breaks.BreakKind.{BreakKind}
 use Rattle.call_log.specs.declared.breaks.BreakKind.TheVariants.{EarlyEnd}
-use Rattle.tracer_lang.specs.declared.record.Record.{Record}
 use Rattle.rec_format.specs.Rules.{IsRecordingValue}
 use Rattle.rec_format.specs.declared.recording.Recording.{Recording}
 use Rattle.replay.specs.Calls.{◌else_try◌}
-use Rattle.replay.specs.Run.{Onward, Goes, Breaks, onward, onward_in, state_after, run_from}
+use Rattle.replay.specs.Run.{Onward, Goes, Breaks, onward, onward_in}
 use Rattle.replay.specs.Breaks.{PartDiff, checkpoint_diff, checkpoint_break, as_checkpoint_break, listed_break, at_count, listed_or, break_after}
 use Rattle.replay.specs.Recorded.{checkpoint_at, recorded_state, recorded_count}
-use Rattle.epoch_run.specs.Records.{Tracers, records_after}
-use Rattle.epoch_run.specs.Epochs.{end_place, between, epoch_size, early_exit, closing_break, epoch_break_from, epoch_break, closing_records, epoch_records_from, epoch_records}
+use Rattle.epoch_run.specs.Epochs.{end_place, between, early_exit, closing_break, epoch_break_from}
 use Rattle.epoch_run.specs.Opened.{IsOpened}
-use Rattle.epoch_run.proofs.Counts.{counts_rise}
 use Rattle.epoch_run.proofs.Between.{listed-before, listed-at, listed-after, listed-none}
 use Rattle.epoch_run.proofs.InRun.{IsInRun, IsInRun-onward}
-use Rattle.epoch_run.proofs.Recorded.{IsInRun-recorded, count-recorded}
 use Rattle.epoch_run.proofs.SameState.{same_state}
 
 -- a checkpoint between two others, of which the second may be that of the end
@@ -58,8 +53,8 @@ break-after opened rec first a b c zero s is opens cut runs late = refl
 break-after opened rec first a b c (suc n) s is opens cut runs late =
     ap (λ listed. listed_or s listed (break_after s (λ t. epoch_break_from opened rec a c t n) (onward rec s))) (listed-after opened rec a b c s is cut.below cut.above cut.within late)
     ∙ same_after s (listed_break opened rec (b + 1) (between rec b c) s) (onward rec s) (λ t. epoch_break_from opened rec a c t n) (λ t. epoch_break_from opened rec b c t n) (λ t goes.
-      let next = IsInRun-onward rec first s t opens runs goes in
-      break-after opened rec first a b c n t is opens cut next.in_run (omega (arith, next.count)))
+    let next = IsInRun-onward rec first s t opens runs goes in
+    break-after opened rec first a b c n t is opens cut next.in_run (omega (arith, next.count)))
 
 -- ---- at b's count
 
@@ -85,8 +80,8 @@ break-at opened rec a b c m s None Running is opens cut runs count same running 
     let some : 0 < b = omega (arith, cut.below) in
     let recorded : s ≡ recorded_state rec opened b = same_state rec opened b s is opens runs some running count same in
     same_after s None (onward rec s) (λ t. epoch_break_from opened.pages rec a c t m) (λ t. epoch_break_from opened.pages rec b c t m) (λ t goes.
-      let next = IsInRun-onward rec opened s t opens runs goes in
-      break-after opened.pages rec opened a b c m t is opens cut next.in_run (omega (arith, next.count)))
+    let next = IsInRun-onward rec opened s t opens runs goes in
+    break-after opened.pages rec opened a b c m t is opens cut next.in_run (omega (arith, next.count)))
     ∙ ap (λ listed. listed_or s listed (break_after s (λ t. epoch_break_from opened.pages rec b c t m) (onward rec s))) (sym (listed-none opened.pages rec b c s is some cut.above cut.within count))
     ∙ from_there opened.pages rec b c m s
     ∙ ap (λ u. epoch_break_from opened.pages rec b c u (suc m)) recorded
@@ -109,6 +104,6 @@ break-joined opened rec a b c (suc n) m zero s is opens cut runs count some sum 
 break-joined opened rec a b c (suc n) m (suc all) s is opens cut runs count some sum =
     ap (λ listed. listed_or s listed (break_after s (λ t. epoch_break_from opened.pages rec a c t all) (onward rec s))) (listed-before opened.pages rec a b c s is cut.below cut.above cut.within (omega arith))
     ∙ further_after s (listed_break opened.pages rec (a + 1) (between rec a b) s) (onward rec s) (λ t. epoch_break_from opened.pages rec a c t all) (λ t. epoch_break_from opened.pages rec a b t n)
-      (epoch_break_from opened.pages rec b c (recorded_state rec opened b) m) (λ t goes.
-      let next = IsInRun-onward rec opened s t opens runs goes in
-      break-joined opened rec a b c n m all t is opens cut next.in_run (omega (arith, next.count)) some (omega arith))
+    (epoch_break_from opened.pages rec b c (recorded_state rec opened b) m) (λ t goes.
+    let next = IsInRun-onward rec opened s t opens runs goes in
+    break-joined opened rec a b c n m all t is opens cut next.in_run (omega (arith, next.count)) some (omega arith))

@@ -1,17 +1,17 @@
 -- Which pages stand in memory, and that writes keep them whole.
-use Rattle.std.specs.Prelude.{if◌then◌else◌, replicate, ◌&&◌, ◌||◌, nat_le, nat_lt, nat_eq, IfSome, is_some, unwrap_or, slice_set}
+use Rattle.std.specs.Prelude.{if◌then◌else◌, ◌&&◌, ◌||◌, nat_le, nat_lt, nat_eq, IfSome, is_some, unwrap_or, slice_set}
 use Rattle.std.specs.Option.{option_map}
 use Rattle.std.specs.Ordering.{nat_cmp, eq_by_cmp}
 use Rattle.std.specs.Cmp.{nat_cmp_total}
 use Rattle.std.specs.FinMap.{get, insert, contains_key, get-insert, gets}
-use Rattle.std.proofs.Common.{◌≡◌, ℕ, zero, suc, ◌+◌, ◌-◌, ◌/◌, ◌%◌, ◌<◌, ◌≤◌, Bool, true, false, cond, List, [], ◌∷◌, length, Option, Some, None, inl, inr, ⊎_elim, refl, sym, ap, subst, ◌∙◌, arith, eq-eqb, ne_eqb, le-leb, lt-ltb, le-ltb}
-use Rattle.std.proofs.lemmas.Bool.{cases_eq, cases_lt, lt-leb}
+use Rattle.std.proofs.Common.{◌≡◌, ℕ, zero, suc, ◌+◌, ◌/◌, ◌%◌, Bool, true, false, cond, List, [], ◌∷◌, length, Option, Some, None, ⊎_elim, refl, sym, ap, ◌∙◌, arith, eq-eqb, ne_eqb}
+use Rattle.std.proofs.lemmas.Bool.{cases_eq}
 use Rattle.std.proofs.lemmas.Bool.Decides.{nat_tests}
 use Rattle.std.proofs.lemmas.Grind.{common_steps}
 use Rattle.std.proofs.lemmas.List.{length-replicate}
 use Rattle.std.proofs.Math.ListN.{length-set}
-use Rattle.sl_model.specs.Pages.{Pages, byte_at, bytes_at, set_byte, set_bytes}
-use Rattle.sl_model.specs.PagesLaws.{AreWhole, is_some-set_bytes}
+use Rattle.sl_model.specs.Pages.{Pages, set_byte, set_bytes}
+use Rattle.sl_model.specs.PagesLaws.{AreWhole}
 use Rattle.replay.specs.Opening.{zero_page, map_page, map_pages}
 
 -- ---- pages of zeros that are mapped where none stands
@@ -54,12 +54,15 @@ chosen mapped pages page number is = ⊎_elim
     there : (page : Option (List ℕ)) → is_some page ≡ true → page ≡ or_zeros page true
     there (Some page) is = refl
     there None is = absurd cc
+
     gone : (page : Option (List ℕ)) → is_some page ≡ false → Some zero_page ≡ or_zeros page true
     gone (Some page) is = absurd cc
     gone None is = refl
+
     at : (mapped : Bool) → number ≡ page → contains_key pages page ≡ mapped → get (if mapped then pages else insert pages page zero_page) number ≡ or_zeros (get pages number) true
     at true same is = there (get pages number) (rw same is)
     at false same is = get-insert nat_cmp_total pages page zero_page number ∙ grind (arith, gets, common_steps, same) ∙ gone (get pages number) (rw same is)
+
     other : (mapped : Bool) → (number ≡ page → ⊥) → get (if mapped then pages else insert pages page zero_page) number ≡ get pages number
     other true apart = refl
     other false apart = grind (arith, gets, common_steps, apart)

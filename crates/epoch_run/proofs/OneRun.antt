@@ -1,14 +1,13 @@
 -- The epochs of a cutting, one after the other.
-use Rattle.std.specs.Prelude.{if◌then◌else◌, ◌==◌, slice_get, slice_index}
+use Rattle.std.specs.Prelude.{slice_get, slice_index}
 use Rattle.std.specs.List.{flat_map, range_with_len}
-use Rattle.std.proofs.Common.{◌≡◌, ℕ, zero, suc, ◌+◌, ◌-◌, ◌<◌, ◌≤◌, ◌↔◌, ◌⊎◌, inl, inr, ⊎_elim, Bool, true, false, List, [], ◌∷◌, ◌++◌, length, take, drop, Option, Some, None, refl, sym, ap, subst, ◌∙◌, append_assoc, append-nil, arith, ne_eqb, eq-eqb, add-one, take_all, get_or}
+use Rattle.std.proofs.Common.{◌≡◌, ℕ, zero, suc, ◌+◌, ◌-◌, ◌<◌, ◌≤◌, ◌⊎◌, inl, inr, ⊎_elim, List, [], ◌∷◌, ◌++◌, length, Option, Some, None, refl, sym, ap, subst, ◌∙◌, append_assoc, append-nil, arith, eq-eqb, take_all}
 use Rattle.std.proofs.lemmas.Option.{get_or_from_slice_get}
 use Rattle.std.proofs.lemmas.List.{get_or_past}
-use Rattle.std.proofs.lemmas.Bool.{cases_eq, cases_lt}
+use Rattle.std.proofs.lemmas.Bool.{cases_eq}
 use Rattle.sl_model.specs.Pages.{Pages}
 use Rattle.sl_model.specs.State.{State}
 use Rattle.call_log.specs.declared.breaks.Break.{Break}
-use Rattle.call_log.specs.declared.breaks.BreakKind.{BreakKind}
 use Rattle.tracer_lang.specs.declared.record.Record.{Record}
 use Rattle.rec_format.specs.Rules.{IsRecordingValue}
 use Rattle.rec_format.specs.declared.recording.Recording.{Recording}
@@ -18,8 +17,8 @@ use Rattle.replay.specs.Run.{onward, run_from}
 use Rattle.replay.specs.Breaks.{checkpoint_break, listed_break, end_break, at_count, listed_or, break_after, first_break_from, first_break}
 use Rattle.replay.specs.Recorded.{checkpoint_at, recorded_state, recorded_count}
 use Rattle.epoch_cut.specs.Places.{IsCutting}
-use Rattle.epoch_run.specs.Records.{Tracers, at_end, records_after, records_from, records}
-use Rattle.epoch_run.specs.Epochs.{end_place, between, epoch_size, closing_break, epoch_break_from, epoch_break, closing_records, epoch_records_from, epoch_records}
+use Rattle.epoch_run.specs.Records.{Tracers, records_after, records_from, records}
+use Rattle.epoch_run.specs.Epochs.{end_place, between, epoch_size, epoch_break_from, epoch_break, epoch_records_from, epoch_records}
 use Rattle.epoch_run.specs.EpochLaws.{epochs_of, break_of, records_of, NoneBreaks, StartsOnTheRun, LeastBreakIsFirst, BreaksWithTheRun, RecordsOfTheRun}
 use Rattle.epoch_run.specs.Opened.{IsOpened}
 use Rattle.epoch_run.proofs.Counts.{counts_rise, checkpoint_at-suc}
@@ -110,8 +109,8 @@ rising_between places rises i (suc j) below within =
     ⊎_elim
     (λ (same : i ≡ j). subst (λ n. slice_index places n < slice_index places (suc j)) (sym same) step)
     (λ (apart : i ≡ j → ⊥).
-      let before = rising_between places rises i j (omega arith) (omega arith) in
-      omega arith)
+    let before = rising_between places rises i j (omega arith) (omega arith) in
+    omega arith)
     (cases_eq i j)
 
 pub record Are (segments : ℕ) (places : List ℕ) : Type 0 where
@@ -127,11 +126,11 @@ not_one segments (x ∷ []) some first last =
     absurd (omega arith)
 not_one segments (x ∷ y ∷ places) some first last = omega arith
 
-pub are : (segments : ℕ) (places : List ℕ) → 0 < segments → IsCutting segments places → Are segments places
-are segments places some cut = record {
+pub are : (rec : Recording) (places : List ℕ) → IsCutting (end_place rec) places → Are (end_place rec) places
+are rec places cut = record {
   first = get_or_from_slice_get places 0 0 0 cut.first;
-  last = get_or_from_slice_get places (length places - 1) segments 0 cut.last;
-  some = not_one segments places some cut.first cut.last;
+  last = get_or_from_slice_get places (length places - 1) (end_place rec) 0 cut.last;
+  some = not_one (end_place rec) places (omega arith) cut.first cut.last;
   rising = rising_between places cut.rising;
 }
 
@@ -197,9 +196,9 @@ module _ (rec : Recording) (opened : State) (places : List ℕ) (is : IsRecordin
       let before : NoneBreaks rec opened places n = no_break_none none n (omega arith) in
       ⊎_elim
       (λ (same : k ≡ n).
-        let begun = begins n (omega arith) in
-        subst (λ j. break_of rec opened places j ≡ None) (sym same)
-        (none_first (break_of rec opened places n) begun.0 (sym begun.1 ∙ sym (none_before n (omega arith) before) ∙ none)))
+      let begun = begins n (omega arith) in
+      subst (λ j. break_of rec opened places j ≡ None) (sym same)
+      (none_first (break_of rec opened places n) begun.0 (sym begun.1 ∙ sym (none_before n (omega arith) before) ∙ none)))
       (λ (apart : k ≡ n → ⊥). before k (omega arith))
       (cases_eq k n)
 
@@ -241,7 +240,7 @@ module _ (rec : Recording) (opened : State) (places : List ℕ) (is : IsRecordin
       let before = starts_on_run k (omega arith) (λ j below. none j (omega arith)) in
       subst (λ n. run_from rec opened (recorded_count rec (place n)) ≡ Some (recorded_state rec opened (place n))) (next_number k)
       (run-add rec (recorded_count rec a) (epoch_size rec a b) (recorded_count rec b) opened (recorded_state rec opened a) sum before
-        ∙ run_joins rec opened a b (end_place rec) is opens between (none k (omega arith)))
+      ∙ run_joins rec opened a b (end_place rec) is opens between (none k (omega arith)))
 
   -- ---- the records
 

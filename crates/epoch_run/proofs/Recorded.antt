@@ -1,11 +1,9 @@
 -- The state that a checkpoint records: its pages, and that it is one that a run could have.
-use Rattle.std.specs.Prelude.{if◌then◌else◌, ◌||◌, ◌*◌, nat_eq, ◌==◌, max, min, IfSome, is_some, unwrap_or, slice_get}
+use Rattle.std.specs.Prelude.{if◌then◌else◌, ◌||◌, ◌==◌, IfSome, is_some, unwrap_or, slice_get}
 use Rattle.std.specs.List.{AllByRecursion, flat_map}
 use Rattle.std.specs.Option.{option_map}
-use Rattle.std.specs.Ordering.{nat_cmp, eq_by_cmp}
-use Rattle.std.specs.Cmp.{nat_cmp_total}
-use Rattle.std.specs.FinMap.{get, insert, contains_key, get-insert, gets}
-use Rattle.std.proofs.Common.{◌≡◌, ℕ, zero, suc, ◌+◌, ◌-◌, ◌/◌, ◌%◌, ◌<◌, ◌≤◌, Bool, true, false, cond, List, [], ◌∷◌, ◌++◌, length, take, Option, Some, None, inl, inr, ⊎_elim, refl, sym, ap, subst, ◌∙◌, arith, eq-eqb, ne_eqb}
+use Rattle.std.specs.FinMap.{get, insert, contains_key, gets}
+use Rattle.std.proofs.Common.{◌≡◌, ℕ, zero, suc, ◌+◌, ◌-◌, ◌/◌, ◌%◌, ◌≤◌, Bool, true, false, cond, List, [], ◌∷◌, ◌++◌, length, take, Option, Some, None, ⊎_elim, refl, sym, ap, subst, ◌∙◌, arith, eq-eqb, ne_eqb}
 use Rattle.std.proofs.lemmas.Bool.{cases_eq}
 use Rattle.std.proofs.lemmas.Grind.{common_steps}
 use Rattle.std.proofs.lemmas.List.{length-replicate}
@@ -38,15 +36,19 @@ get-put_listed pages page number = ⊎_elim
     there : (old : Option (List ℕ)) → is_some old ≡ true → page.number ≡ number → Some page.bytes ≡ option_map (relisted page number) old
     there None is same = absurd cc
     there (Some old) is same = rw (eq-eqb page.number number same) refl
+
     gone : (old : Option (List ℕ)) → is_some old ≡ false → old ≡ option_map (relisted page number) old
     gone None is = refl
     gone (Some old) is = absurd cc
+
     stays : (old : Option (List ℕ)) → (page.number ≡ number → ⊥) → old ≡ option_map (relisted page number) old
     stays None apart = refl
     stays (Some old) apart = rw (ne_eqb page.number number apart) refl
+
     at : (mapped : Bool) → contains_key pages page.number ≡ mapped → page.number ≡ number → get (if mapped then insert pages page.number page.bytes else pages) number ≡ option_map (relisted page number) (get pages number)
     at true is same = grind (arith, gets, common_steps, same) ∙ there (get pages number) (rw (← same) is) same
     at false is same = gone (get pages number) (rw (← same) is)
+
     other : (mapped : Bool) → (page.number ≡ number → ⊥) → get (if mapped then insert pages page.number page.bytes else pages) number ≡ option_map (relisted page number) (get pages number)
     other true apart = grind (arith, gets, common_steps, apart) ∙ stays (get pages number) apart
     other false apart = stays (get pages number) apart

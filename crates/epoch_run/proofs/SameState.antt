@@ -1,20 +1,18 @@
 -- A state that runs and does not differ from a checkpoint is the state that the checkpoint records.
-use Rattle.std.specs.Prelude.{if◌then◌else◌, ◌||◌, ◌&&◌, ◌*◌, ◌^◌, nat_eq, ◌==◌, nat_le, nat_lt, max, min, IfSome, is_some, slice_index}
+use Rattle.std.specs.Prelude.{if◌then◌else◌, ◌*◌, ◌^◌, ◌==◌, nat_le, nat_lt, IfSome, is_some, slice_index}
 use Rattle.std.specs.List.{range_with_len}
-use Rattle.std.specs.Ordering.{nat_cmp}
 use Rattle.std.specs.Cmp.{nat_cmp_total}
 use Rattle.std.specs.FinMap.{get, same_map, nat_cmp-IsAntisymmetric}
-use Rattle.std.proofs.Common.{◌≡◌, ℕ, zero, suc, ◌+◌, ◌-◌, ◌/◌, ◌%◌, ◌<◌, ◌≤◌, Bool, true, false, cond, List, [], ◌∷◌, ◌++◌, length, drop, Option, Some, None, inl, inr, ⊎_elim, refl, sym, ap, subst, ◌∙◌, ◌⊎◌, arith, length-drop, eqb-true}
+use Rattle.std.proofs.Common.{◌≡◌, ℕ, zero, suc, ◌+◌, ◌/◌, ◌%◌, ◌<◌, ◌≤◌, Bool, true, false, cond, List, [], ◌∷◌, length, drop, Option, Some, None, inl, inr, ⊎_elim, refl, sym, ap, subst, ◌∙◌, ◌⊎◌, arith, eqb-true}
 use Rattle.std.proofs.lemmas.Bool.{or_cases, and_parts, ltb-true, cases_eq, cases_lt}
 use Rattle.sl_model.specs.declared.run_state.RunState.TheVariants.{Running}
 use Rattle.sl_model.specs.Pages.{Pages, IsPage}
-use Rattle.sl_model.specs.PagesLaws.{AreWhole}
-use Rattle.sl_model.specs.State.{State, register, MEMORY_END}
+use Rattle.sl_model.specs.State.{State}
 use Rattle.rec_format.specs.Rules.{IsRecordingValue}
 use Rattle.rec_format.specs.declared.recording.Recording.{Recording}
 use Rattle.rec_format.specs.declared.recording.CheckpointData.{CheckpointData}
 use Rattle.replay.specs.Calls.{◌else_try◌}
-use Rattle.replay.specs.Breaks.{PartDiff, part_diff, parts_diff, bytes_diff, page_diff, pages_diff, recorded_page, is_listed, listings, PAGE_NUMBERS, machine_diff, checkpoint_diff}
+use Rattle.replay.specs.Breaks.{PartDiff, part_diff, parts_diff, bytes_diff, page_diff, pages_diff, recorded_page, PAGE_NUMBERS, machine_diff, checkpoint_diff}
 use Rattle.replay.specs.Recorded.{recorded_end, recorded_pages, recorded_state_of, recorded_state, recorded_count, checkpoint_at}
 use Rattle.epoch_run.specs.Opened.{IsOpened}
 use Rattle.epoch_run.proofs.Mapped.{is_among}
@@ -138,8 +136,8 @@ below_all : (opened : State) (brk_end number : ℕ) → IsOpened opened → brk_
 below_all opened brk_end number is to mapped = ⊎_elim
     (λ (stood : is_some (get opened.pages number) ≡ true). of (get opened.pages number) stood (is.pages number))
     (λ (heap : is_among (opened.brk_start / 4096) (brk_end / 4096) number ≡ true).
-      let below : number < brk_end / 4096 = ltb-true number (brk_end / 4096) (and_parts (nat_le (opened.brk_start / 4096) number) (nat_lt number (brk_end / 4096)) heap).1 in
-      omega (arith, is.below_end))
+    let below : number < brk_end / 4096 = ltb-true number (brk_end / 4096) (and_parts (nat_le (opened.brk_start / 4096) number) (nat_lt number (brk_end / 4096)) heap).1 in
+    omega (arith, is.below_end))
     (or_cases (is_some (get opened.pages number)) (is_among (opened.brk_start / 4096) (brk_end / 4096) number) mapped)
   where
     of : (page : Option (List ℕ)) → is_some page ≡ true → IfSome page (λ p. (number < 2 ^ 20) × IsPage p) → number < 2 ^ 20
@@ -160,11 +158,11 @@ each_page rec opened k s number is opens runs none = with_count (2 ^ 20) refl
     with_count : (count : ℕ) → count ≡ 2 ^ 20 → get s.pages number ≡ cond (is_mapped opened s.brk_end number) (Some (recorded_page opened.pages rec k number)) None
     with_count count all = ⊎_elim
         (λ (below : number < count).
-          same_page opened.pages rec k number (get s.pages number) (length-recorded_page rec opened.pages k number is (IsInRun-opened opened opens).whole) (runs.whole number) (page_none opened.pages rec k s number count all none below)
-          ∙ ap (λ b. cond b (Some (recorded_page opened.pages rec k number)) None) (runs.mapped number))
+        same_page opened.pages rec k number (get s.pages number) (length-recorded_page rec opened.pages k number is (IsInRun-opened opened opens).whole) (runs.whole number) (page_none opened.pages rec k s number count all none below)
+        ∙ ap (λ b. cond b (Some (recorded_page opened.pages rec k number)) None) (runs.mapped number))
         (λ (past : count ≤ number). absent (get s.pages number) (recorded_page opened.pages rec k number) (is_mapped opened s.brk_end number) (runs.mapped number) (λ mapped.
-          let below = below_all opened s.brk_end number opens runs.end_to mapped in
-          absurd (omega arith)))
+        let below = below_all opened s.brk_end number opens runs.end_to mapped in
+        absurd (omega arith)))
         (cases_lt number count)
 
 same_pages : (rec : Recording) (opened : State) (k : ℕ) (s : State) → IsRecordingValue rec → IsOpened opened → IsInRun opened s → pages_diff opened.pages rec k s PAGE_NUMBERS ≡ None

@@ -1,2 +1,9 @@
 //! What an epoch of a recorded run gives, and the records that tracers leave on it.
 #![tactic(auto)]
+
+mod laws;
+
+pub use laws::{
+    epochs_join, epochs_start_on_the_run, least_break_is_first, one_epoch_is_the_run,
+    records_are_those_of_the_run,
+};

@@ -1,0 +1,44 @@
+//! Laws of epochs, each the contract of a function that does nothing. They hold for every recording, also for one whose
+//! checkpoints no run ever had.
+
+ghost use Rattle.std.specs.Prelude.{◌≡◌, ℕ, List};
+ghost use Rattle.sl_model.specs.State.{State};
+ghost use Rattle.rec_format.specs.declared.recording.Recording.{Recording};
+ghost use Rattle.rec_format.specs.Rules.{IsRecordingValue};
+ghost use Rattle.replay.specs.Breaks.{first_break};
+ghost use Rattle.epoch_cut.specs.Places.{IsCutting};
+ghost use Rattle.epoch_run.specs.Records.{Tracers, records};
+ghost use Rattle.epoch_run.specs.Epochs.{end_place, epoch_break, epoch_records};
+ghost use Rattle.epoch_run.specs.Opened.{IsOpened};
+ghost use Rattle.epoch_run.specs.EpochLaws.{BreaksJoin, RecordsJoin, StartsOnTheRun, LeastBreakIsFirst, BreaksWithTheRun, RecordsOfTheRun};
+
+/// An epoch that is cut in two breaks where its first part does, and else where its second part does. Where the first
+/// part does not break, its records come first and then those of the second.
+pub fn epochs_join()
+    ensures breaks { (rec : Recording) (opened : State) → IsRecordingValue rec → IsOpened opened → BreaksJoin rec opened }
+    ensures records { (rec : Recording) (opened : State) (tracers : Tracers) → IsRecordingValue rec → IsOpened opened → RecordsJoin rec opened tracers }
+{}
+
+/// The epoch from the opening state to the end is the one run, which compares nothing before its first instruction and
+/// every checkpoint after it.
+pub fn one_epoch_is_the_run()
+    ensures breaks { (rec : Recording) (opened : State) → first_break rec opened ≡ epoch_break rec opened 0 (end_place rec) }
+    ensures records { (rec : Recording) (opened : State) (tracers : Tracers) → records rec tracers opened ≡ epoch_records rec opened tracers 0 (end_place rec) }
+{}
+
+/// Where no epoch of a cutting breaks before it, an epoch starts at the state that the run has there.
+pub fn epochs_start_on_the_run()
+    ensures { (rec : Recording) (opened : State) (places : List ℕ) → IsRecordingValue rec → IsOpened opened → IsCutting (end_place rec) places → StartsOnTheRun rec opened places }
+{}
+
+/// The least epoch of a cutting with a break has the first break of the run, and no epoch breaks exactly where the run
+/// does not.
+pub fn least_break_is_first()
+    ensures first { (rec : Recording) (opened : State) (places : List ℕ) → IsRecordingValue rec → IsOpened opened → IsCutting (end_place rec) places → LeastBreakIsFirst rec opened places }
+    ensures none { (rec : Recording) (opened : State) (places : List ℕ) → IsRecordingValue rec → IsOpened opened → IsCutting (end_place rec) places → BreaksWithTheRun rec opened places }
+{}
+
+/// Where no epoch of a cutting breaks, their records in order are those of the run.
+pub fn records_are_those_of_the_run()
+    ensures { (rec : Recording) (opened : State) (tracers : Tracers) (places : List ℕ) → IsRecordingValue rec → IsOpened opened → IsCutting (end_place rec) places → RecordsOfTheRun rec opened tracers places }
+{}
