@@ -56,9 +56,9 @@ no_heap opened number same =
 whole_pages : (opened : State) → IsOpened opened → AreWhole opened.pages
 whole_pages opened is number = of (get opened.pages number) (is.pages number)
   where
-    of : (page : Option (List ℕ)) → IfSome page (λ p. (number < 2 ^ 20) × IsPage p) → IfSome page (λ p. length p ≡ 4096)
+    of : (page : Option (List ℕ)) → IfSome page (λ p. (number < 2 ^ 20) × (length p ≡ 4096)) → IfSome page (λ p. length p ≡ 4096)
     of None is = tt
-    of (Some page) is = is.1.whole
+    of (Some page) is = is.1
 
 pub IsInRun-opened : (opened : State) → IsOpened opened → IsInRun opened opened
 IsInRun-opened opened is = record {

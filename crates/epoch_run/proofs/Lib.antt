@@ -7,3 +7,4 @@ mod SameState
 mod Joined
 mod Arrived
 mod OneRun
+mod Opening

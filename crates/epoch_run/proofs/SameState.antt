@@ -140,7 +140,7 @@ below_all opened brk_end number is to mapped = ⊎_elim
     omega (arith, is.below_end))
     (or_cases (is_some (get opened.pages number)) (is_among (opened.brk_start / 4096) (brk_end / 4096) number) mapped)
   where
-    of : (page : Option (List ℕ)) → is_some page ≡ true → IfSome page (λ p. (number < 2 ^ 20) × IsPage p) → number < 2 ^ 20
+    of : (page : Option (List ℕ)) → is_some page ≡ true → IfSome page (λ p. (number < 2 ^ 20) × (length p ≡ 4096)) → number < 2 ^ 20
     of None some is = absurd cc
     of (Some page) some is = is.0
 

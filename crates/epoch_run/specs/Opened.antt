@@ -1,15 +1,16 @@
 -- The state that a recorded run starts at, as far as its epochs need it.
-use Rattle.std.specs.Prelude.{◌≡◌, ◌%◌, ◌≤◌, length}
+use Rattle.std.specs.Prelude.{◌≡◌, ℕ, ◌+◌, ◌%◌, ◌^◌, ◌<◌, ◌≤◌, length, IfSome}
+use Rattle.std.specs.FinMap.{get}
 use Rattle.sl_model.specs.declared.run_state.RunState.TheVariants.{Running}
-use Rattle.sl_model.specs.Pages.{ArePages}
+use Rattle.elf_image.specs.declared.image.Segment.{Segment}
 use Rattle.sl_model.specs.State.{State, register, MEMORY_END}
 
--- A program before its first instruction: 32 registers, x0 being 0, pages of 4,096 bytes, and a heap of whole pages, none
--- of them mapped by a call yet.
+-- A program before its first instruction: 32 registers, x0 being 0, pages of 4,096 bytes below 2 ^ 32, and a heap of whole
+-- pages, none of them mapped by a call yet.
 pub record IsOpened (s : State) : Type 0 where
   pub registers : length s.x ≡ 32
   pub zero : register s 0 ≡ 0
-  pub pages : ArePages s.pages
+  pub pages : (number : ℕ) → IfSome (get s.pages number) (λ page. (number < 2 ^ 20) × (length page ≡ 4096))
   pub start : s.brk_start % 4096 ≡ 0
   pub limit : s.heap_limit % 4096 ≡ 0
   pub ordered : s.brk_start ≤ s.heap_limit
@@ -17,3 +18,7 @@ pub record IsOpened (s : State) : Type 0 where
   pub heap : s.brk_end ≡ s.brk_start
   pub status : s.status ≡ Running
   pub count : s.count ≡ 0
+
+-- a segment that takes memory lies in a program's
+abbrev pub IsInMemory : Segment → Type 0
+IsInMemory segment = 0 < segment.memsz → segment.vaddr + segment.memsz ≤ MEMORY_END

@@ -1,16 +1,27 @@
 //! Laws of epochs, each the contract of a function that does nothing. They hold for every recording, also for one whose
 //! checkpoints no run ever had.
 
-ghost use Rattle.std.specs.Prelude.{◌≡◌, ℕ, List};
+ghost use Rattle.std.specs.Prelude.{◌≡◌, ℕ, List, Ok};
+ghost use Rattle.std.specs.List.{AllByRecursion};
 ghost use Rattle.sl_model.specs.State.{State};
 ghost use Rattle.rec_format.specs.declared.recording.Recording.{Recording};
 ghost use Rattle.rec_format.specs.Rules.{IsRecordingValue};
+ghost use Rattle.elf_image.specs.declared.image.Image.{Image};
+ghost use Rattle.elf_image.specs.Flat.{flat_image};
+ghost use Rattle.replay.specs.Opening.{opening};
 ghost use Rattle.replay.specs.Breaks.{first_break};
 ghost use Rattle.epoch_cut.specs.Places.{IsCutting};
 ghost use Rattle.epoch_run.specs.Records.{Tracers, records};
 ghost use Rattle.epoch_run.specs.Epochs.{end_place, epoch_break, epoch_records};
-ghost use Rattle.epoch_run.specs.Opened.{IsOpened};
+ghost use Rattle.epoch_run.specs.Opened.{IsOpened, IsInMemory};
 ghost use Rattle.epoch_run.specs.EpochLaws.{BreaksJoin, RecordsJoin, StartsOnTheRun, LeastBreakIsFirst, BreaksWithTheRun, RecordsOfTheRun};
+
+/// The laws below speak of every program that is opened so: of each whose image lies in memory, and so of each flat image
+/// that is accepted.
+pub fn programs_open_so()
+    ensures image { (image : Image) (args : List (List ℕ)) → AllByRecursion IsInMemory image.segments → IsOpened (opening image args) }
+    ensures flat { (address : ℕ) (bytes : List ℕ) (image : Image) (args : List (List ℕ)) → flat_image address bytes ≡ Ok image → IsOpened (opening image args) }
+{}
 
 /// An epoch that is cut in two breaks where its first part does, and else where its second part does. Where the first
 /// part does not break, its records come first and then those of the second.
