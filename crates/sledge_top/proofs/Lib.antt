@@ -9,3 +9,4 @@ mod Changes
 mod EndBreaks
 mod Tracing
 mod Flats
+mod WordCounts

@@ -5,10 +5,6 @@ use Rattle.std.proofs.Math.Seq.{take-append-add}
 use Rattle.std.proofs.lemmas.List.{take-append-drop, take-append-le, drop_more, length-append}
 use Rattle.std.proofs.lemmas.List.Concat.{flat_map-cons}
 use Rattle.std.proofs.lemmas.Grind.{flat_map-append}
-use Rattle.std.specs.Prelude.{codes}
-use Rattle.std.specs.Fmt.{decimal}
-use Rattle.sledge_top.specs.declared.status.Status.TheVariants.{TooLong}
-use Rattle.sledge_top.specs.Status.{fault_line}
 use Rattle.sl_base.specs.Written.{Adds, AddsPrefix}
 
 -- what holds whatever the result is holds at its errors
@@ -40,8 +36,3 @@ pieces_at bytes pieces i d lt =
 pub prefix_at : {X : Type 0} (bytes : X → List ℕ) (pieces : List X) (i : ℕ) (d : X) (old mid new : Option (List ℕ)) → i < length pieces → Adds old mid (flat_map bytes (take i pieces)) → AddsPrefix mid new (bytes (get_or pieces i d)) → AddsPrefix old new (flat_map bytes pieces)
 prefix_at bytes pieces i d old mid new lt all some =
     subst (AddsPrefix old new) (pieces_at bytes pieces i d lt) (AddsPrefix-after old mid new (flat_map bytes (take i pieces)) (bytes (get_or pieces i d)) (flat_map bytes (drop (i + 1) pieces)) all some)
-
--- the pieces of the line for a file that is too long
-pub too_long_pieces : (limit : ℕ) (name digits slice : List ℕ) → digits ≡ decimal limit → slice ≡ name → codes "sledge: longer than " ++ (digits ++ (codes " bytes: " ++ (slice ++ 10 ∷ []))) ≡ fault_line (TooLong limit name)
-too_long_pieces limit name digits slice p q =
-    rw (p, q) (sym (simp append_assoc))

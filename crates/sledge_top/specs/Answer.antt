@@ -14,6 +14,8 @@ use Rattle.elf_image.specs.declared.image.Image.{Image}
 use Rattle.elf_image.specs.declared.fault.ImageFault.{ImageFault}
 use Rattle.elf_image.specs.Flat.{flat_image}
 use Rattle.call_log.specs.declared.breaks.Break.{Break}
+use Rattle.call_log.specs.declared.breaks.BreakKind.{BreakKind}
+use Rattle.call_log.specs.declared.breaks.BreakKind.TheVariants as kind
 use Rattle.replay.specs.Opening.{opening}
 use Rattle.replay.specs.Run.{run_from}
 use Rattle.replay.specs.Breaks.{first_break}
@@ -42,7 +44,7 @@ file_of files name limit = within limit name (get files name)
 -- the recording that bytes spell, where it is one that is built
 abbrev pub small_of : Result Recording RecFault → Result Recording Status
 small_of (Ok rec) = if is_small rec then Ok rec else Err status.NotBuilt
-small_of (Err fault) = Err status.NotBuilt
+small_of (Err fault) = Err (status.RecordingBroken fault)
 
 abbrev pub small_recording : List ℕ → Result Recording Status
 small_recording bytes = small_of (reading bytes)
@@ -67,9 +69,18 @@ abbrev pub report_at : Recording → Tracers → State → Option State → Resu
 report_at rec tracers first None = Err status.NotBuilt
 report_at rec tracers first (Some last) = Ok (report (all_lines 1 (records rec tracers first)) rec.end last)
 
+-- how a command ends where the replay first differs from its recording
+abbrev pub broken_by : Break → BreakKind → Status
+broken_by first (kind.CheckpointDiffers index part address recorded replayed) = status.CheckpointDiffers first
+broken_by first (kind.NoCall index) = status.ReplayBroken first
+broken_by first (kind.CallDiffers index field recorded due) = status.ReplayBroken first
+broken_by first (kind.EarlyEnd end) = status.ReplayBroken first
+broken_by first (kind.EndDiffers recorded replayed) = status.ReplayBroken first
+broken_by first (kind.CallsLeft index) = status.ReplayBroken first
+
 -- the report of a recording that is replayed from its opening state, where it does not break
 abbrev pub replayed : Recording → Tracers → State → Option Break → Result (List ℕ) Status
-replayed rec tracers first (Some break) = Err status.NotBuilt
+replayed rec tracers first (Some break) = Err (broken_by break break.kind)
 replayed rec tracers first None = report_at rec tracers first (run_from rec first rec.last.count)
 
 unfoldable pub traced : Recording → ℕ → State → Result (List ℕ) Status
@@ -82,7 +93,7 @@ report_for rec address = do
 
 -- the text that a command writes to the first output, or how it is refused
 unfoldable pub text_of : Files → Order → Result (List ℕ) Status
-text_of files (TraceAt recording address) = do
+text_of files (TraceAt recording address epochs) = do
   bytes ← file_of files recording RECORDING_LIMIT
   rec ← small_recording bytes
   report_for rec address
@@ -105,6 +116,9 @@ Fails status.Ok defined = defined ≡ Err status.Ok
 Fails status.Usage defined = defined ≡ Err status.Usage
 Fails (status.Absent name) defined = defined ≡ Err (status.Absent name)
 Fails (status.TooLong limit name) defined = defined ≡ Err (status.TooLong limit name)
+Fails (status.RecordingBroken fault) defined = defined ≡ Err (status.RecordingBroken fault)
+Fails (status.ReplayBroken first) defined = defined ≡ Err (status.ReplayBroken first)
+Fails (status.CheckpointDiffers first) defined = defined ≡ Err (status.CheckpointDiffers first)
 Fails status.NotBuilt defined = defined ≡ Err status.NotBuilt
 
 -- what a part of a command returned, seen by view, is what the definition gives
@@ -126,6 +140,9 @@ Ends status.Ok defined = ending defined ≡ status.Ok
 Ends status.Usage defined = ending defined ≡ status.Usage
 Ends (status.Absent name) defined = ending defined ≡ status.Absent name
 Ends (status.TooLong limit name) defined = ending defined ≡ status.TooLong limit name
+Ends (status.RecordingBroken fault) defined = ending defined ≡ status.RecordingBroken fault
+Ends (status.ReplayBroken first) defined = ending defined ≡ status.ReplayBroken first
+Ends (status.CheckpointDiffers first) defined = ending defined ≡ status.CheckpointDiffers first
 Ends status.NotBuilt defined = ending defined ≡ status.NotBuilt
 
 -- the text of the first output

@@ -6,3 +6,4 @@ pub mod Report
 pub mod Small
 pub mod Replay
 pub mod Changed
+pub mod Pieces

@@ -5,7 +5,7 @@ use Rattle.sledge_top.specs.declared.words.Order.TheVariants as given
 use Rattle.sledge_top.specs.Words.{Order, TraceAt}
 
 abbrev pub order_of : Given → Order
-order_of (given.TraceAt recording address) = TraceAt recording.now address
+order_of (given.TraceAt recording address epochs) = TraceAt recording.now address epochs
 
 -- the bytes of each word
 abbrev pub texts : {A : Type 0} → List (String A) → List (List ℕ)

@@ -33,6 +33,7 @@ fn text_of<S: Store>(alloc: Global, order: Order<'_>, store: &mut S) -> Result<V
         Order::TraceAt {
             recording,
             address,
+            epochs: _,
         } => {
             let bytes = file_of(alloc, store, recording, RECORDING_LIMIT)?;
             let rec = small_recording(alloc, &bytes)?;

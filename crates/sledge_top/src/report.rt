@@ -158,7 +158,7 @@ pub fn push_record_line(
 }
 
 /// The kind of an end.
-fn end_kind(end: &End) -> &'static str
+pub fn end_kind(end: &End) -> &'static str
     ensures { result.now ≡ end_kind end.now }
 {
     match end {
@@ -169,7 +169,7 @@ fn end_kind(end: &End) -> &'static str
 }
 
 /// The code of an exit or the number of a trap, else 0.
-fn end_value(end: &End) -> u32
+pub fn end_value(end: &End) -> u32
     ensures { result ≡ end_value end.now }
 {
     match end {

@@ -2,6 +2,8 @@
 
 ghost use Rattle.std.specs.Prelude.{◌≡◌};
 
+use call_log::Break;
+use rec_format::RecFault;
 use sl_base::{Memory, Seq};
 use std::alloc::AllocError;
 
@@ -16,6 +18,12 @@ pub enum Status {
     Absent { name: Seq<u8> },
     /// The file of this name has more than `limit` bytes.
     TooLong { limit: u64, name: Seq<u8> },
+    /// The file is no recording, by its first fault.
+    RecordingBroken(RecFault),
+    /// The replay first differs from the recording by a call or by its end.
+    ReplayBroken(Break),
+    /// The replay first differs from the recording at a checkpoint.
+    CheckpointDiffers(Break),
     /// The store failed.
     StoreFault,
     /// The first output failed. What was written to it is a prefix of the command's text.
@@ -39,6 +47,9 @@ impl Status {
             Status::Usage => 1,
             Status::Absent { .. } => 2,
             Status::TooLong { .. } => 3,
+            Status::RecordingBroken(_) => 4,
+            Status::ReplayBroken(_) => 8,
+            Status::CheckpointDiffers(_) => 9,
             Status::StoreFault => 10,
             Status::SinkFault => 11,
             Status::Memory => 12,

@@ -1,6 +1,7 @@
 use Rattle.std.proofs.Common.{◌≤◌, take}
 use Rattle.std.specs.List.{flat_map}
 use Rattle.sl_base.specs.Written.{Adds}
+use Rattle.sledge_top.specs.Pieces.{piece_text}
 use Rattle.sledge_top.proofs.fault_line.write_pieces.Given as goal
 
 -- the pieces so far were added
@@ -8,6 +9,6 @@ abbrev pub invariant-loop-piece : goal.invariant-loop-piece
 invariant-loop-piece g l =
     let written = g.O.Sink.written in
     record {
-      added : Adds (written l.fn.out) (written l.out) (flat_map (λ piece. piece.now) (take l.piece-index l.pieces));
+      added : Adds (written l.fn.out) (written l.out) (flat_map piece_text (take l.piece-index l.pieces));
       later : g.O.Sink.faults l.fn.out ≤ g.O.Sink.faults l.out;
     }
