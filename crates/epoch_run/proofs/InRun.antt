@@ -13,7 +13,7 @@ use Rattle.sl_model.specs.declared.instr.Instr.TheVariants.{Lui, Auipc, Jal, Jal
 use Rattle.sl_model.specs.declared.instr.LoadOp.{LoadOp}
 use Rattle.sl_model.specs.declared.run_state.RunState.{RunState}
 use Rattle.sl_model.specs.declared.run_state.RunState.TheVariants.{Running, Exited}
-use Rattle.sl_model.specs.Pages.{IsPage, set_bytes, load_at, store_at}
+use Rattle.sl_model.specs.Pages.{set_bytes, load_at, store_at}
 use Rattle.sl_model.specs.PagesLaws.{AreWhole, is_some-set_bytes}
 use Rattle.sl_model.specs.Words.{meaning}
 use Rattle.sl_model.specs.Arithmetic.{word_add, branch_word, is_taken}

@@ -8,3 +8,4 @@ mod Joined
 mod Arrived
 mod OneRun
 mod Opening
+mod Rows

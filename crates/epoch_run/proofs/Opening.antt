@@ -1,21 +1,19 @@
 -- The opening state of an image in memory is one that a recorded run may start at.
-use Rattle.std.specs.Prelude.{if◌then◌else◌, ◌||◌, ◌*◌, ◌^◌, nat_eq, nat_le, nat_lt, ◌==◌, max, min, IfSome, is_some, replicate, slice_set, slice_index, Result, Ok, Err}
+use Rattle.std.specs.Prelude.{if◌then◌else◌, ◌*◌, ◌^◌, nat_le, nat_lt, ◌==◌, max, min, IfSome, is_some, replicate, Ok}
 use Rattle.std.specs.List.{AllByRecursion}
 use Rattle.std.specs.Ordering.{nat_cmp}
 use Rattle.std.specs.FinMap.{get, empty, get-empty}
-use Rattle.std.proofs.Common.{◌≡◌, ℕ, zero, suc, ◌+◌, ◌-◌, ◌/◌, ◌%◌, ◌<◌, ◌≤◌, Bool, true, false, List, [], ◌∷◌, length, Option, Some, None, inl, inr, ⊎_elim, refl, sym, ap, subst, ◌∙◌, arith, leb-true, leb-false, true≢false, ltb-false}
+use Rattle.std.proofs.Common.{◌≡◌, ℕ, ◌+◌, ◌/◌, ◌%◌, ◌<◌, ◌≤◌, Bool, true, false, List, [], ◌∷◌, length, Option, Some, None, ⊎_elim, refl, sym, ap, subst, ◌∙◌, arith, leb-true, true≢false, ltb-false}
 use Rattle.std.proofs.lemmas.Bool.{or_cases, and_parts, ltb-true, eqb-false}
-use Rattle.std.proofs.lemmas.List.{length-replicate}
 use Rattle.std.proofs.Math.ListN.{length-set}
 use Rattle.sl_model.specs.Pages.{Pages, set_bytes}
 use Rattle.sl_model.specs.PagesLaws.{AreWhole, is_some-set_bytes}
-use Rattle.sl_model.specs.State.{State, MEMORY_END}
+use Rattle.sl_model.specs.State.{MEMORY_END}
 use Rattle.elf_image.specs.declared.image.Image.{Image}
 use Rattle.elf_image.specs.declared.image.Segment.{Segment}
-use Rattle.elf_image.specs.declared.fault.ImageFault.{ImageFault}
 use Rattle.elf_image.specs.Flat.{FIRST_STACK_PAGE, STACK_PAGES, page_count, meets_stack, one_segment, flat_fault, flat_image}
 use Rattle.elf_image.specs.declared.fault.ImageCause.TheVariants.{SegmentRange, Overlap}
-use Rattle.replay.specs.Opening.{map_pages, map_segment, map_segments, mapped, fill_segments, fill_stack, opening_pages, opening_registers, stack_pointer, round_up, highest_end, heap_start, wall, heap_limit, opening}
+use Rattle.replay.specs.Opening.{map_pages, map_segment, map_segments, mapped, fill_segments, opening_pages, stack_pointer, round_up, highest_end, heap_start, opening}
 use Rattle.epoch_run.specs.Opened.{IsOpened, IsInMemory}
 use Rattle.epoch_run.proofs.Mapped.{is_among, get-map_pages, is_some-or_zeros, AreWhole-map_pages, AreWhole-set_bytes}
 

@@ -6,7 +6,7 @@ use Rattle.std.specs.FinMap.{get, same_map, nat_cmp-IsAntisymmetric}
 use Rattle.std.proofs.Common.{◌≡◌, ℕ, zero, suc, ◌+◌, ◌/◌, ◌%◌, ◌<◌, ◌≤◌, Bool, true, false, cond, List, [], ◌∷◌, length, drop, Option, Some, None, inl, inr, ⊎_elim, refl, sym, ap, subst, ◌∙◌, ◌⊎◌, arith, eqb-true}
 use Rattle.std.proofs.lemmas.Bool.{or_cases, and_parts, ltb-true, cases_eq, cases_lt}
 use Rattle.sl_model.specs.declared.run_state.RunState.TheVariants.{Running}
-use Rattle.sl_model.specs.Pages.{Pages, IsPage}
+use Rattle.sl_model.specs.Pages.{Pages}
 use Rattle.sl_model.specs.State.{State}
 use Rattle.rec_format.specs.Rules.{IsRecordingValue}
 use Rattle.rec_format.specs.declared.recording.Recording.{Recording}
