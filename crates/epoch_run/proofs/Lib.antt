@@ -8,4 +8,5 @@ mod Joined
 mod Arrived
 mod OneRun
 mod Opening
+mod Values
 mod Rows

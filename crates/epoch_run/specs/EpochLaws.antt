@@ -10,7 +10,7 @@ use Rattle.replay.specs.Breaks.{first_break}
 use Rattle.replay.specs.Calls.{◌else_try◌}
 use Rattle.replay.specs.Recorded.{recorded_state, recorded_count}
 use Rattle.epoch_run.specs.Records.{Tracers, records}
-use Rattle.epoch_run.specs.Epochs.{end_place, epoch_break, epoch_records}
+use Rattle.epoch_run.specs.Epochs.{end_place, epoch_size, epoch_break, epoch_records, EpochValue, Ran, Broke, epoch_value}
 
 -- ---- an epoch from a to c that is cut in two at b
 
@@ -23,6 +23,12 @@ abbrev pub RecordsJoin : Recording → State → Tracers → Type 0
 RecordsJoin rec opened tracers =
     (a b c : ℕ) → a < b → b < c → c ≤ end_place rec → epoch_break rec opened a b ≡ None
     → epoch_records rec opened tracers a c ≡ epoch_records rec opened tracers a b ++ epoch_records rec opened tracers b c
+
+-- where the first part does not break, it comes to the state that b records
+abbrev pub StatesJoin : Recording → State → Type 0
+StatesJoin rec opened =
+    (a b : ℕ) → a < b → b < end_place rec → epoch_break rec opened a b ≡ None
+    → run_from rec (recorded_state rec opened a) (epoch_size rec a b) ≡ Some (recorded_state rec opened b)
 
 -- ---- the epochs of a cutting, from each place to the next
 
@@ -62,3 +68,24 @@ BreaksWithTheRun rec opened places = NoneBreaks rec opened places (epochs_of pla
 abbrev pub RecordsOfTheRun : Recording → State → Tracers → List ℕ → Type 0
 RecordsOfTheRun rec opened tracers places =
     NoneBreaks rec opened places (epochs_of places) → flat_map (records_of rec opened tracers places) (range_with_len 0 (epochs_of places)) ≡ records rec tracers opened
+
+-- ---- the same by the values of the epochs
+
+-- the value of epoch k
+abbrev pub value_at : Recording → State → Tracers → List ℕ → ℕ → EpochValue
+value_at rec opened tracers places k = epoch_value rec opened tracers (slice_index places k) (slice_index places (k + 1))
+
+-- each of the first n epochs ran, and left the records of this list
+abbrev pub AllRan : Recording → State → Tracers → List ℕ → (ℕ → List Record) → ℕ → Type 0
+AllRan rec opened tracers places left n = (k : ℕ) → k < n → value_at rec opened tracers places k ≡ Ran (left k)
+
+-- where all before it ran, an epoch that broke has the first break of the run
+abbrev pub FirstBrokeIsFirst : Recording → State → Tracers → List ℕ → Type 0
+FirstBrokeIsFirst rec opened tracers places =
+    (left : ℕ → List Record) (k : ℕ) (broken : Break) → k < epochs_of places → AllRan rec opened tracers places left k → value_at rec opened tracers places k ≡ Broke broken → first_break rec opened ≡ Some broken
+
+-- where all ran, the run does not break, and what they left in order is what the run leaves
+abbrev pub AllRanAreTheRun : Recording → State → Tracers → List ℕ → Type 0
+AllRanAreTheRun rec opened tracers places =
+    (left : ℕ → List Record) → AllRan rec opened tracers places left (epochs_of places)
+    → (first_break rec opened ≡ None) × (flat_map left (range_with_len 0 (epochs_of places)) ≡ records rec tracers opened)

@@ -14,7 +14,7 @@ ghost use Rattle.epoch_cut.specs.Places.{IsCutting};
 ghost use Rattle.epoch_run.specs.Records.{Tracers, records};
 ghost use Rattle.epoch_run.specs.Epochs.{end_place, epoch_break, epoch_records};
 ghost use Rattle.epoch_run.specs.Opened.{IsOpened, IsInMemory};
-ghost use Rattle.epoch_run.specs.EpochLaws.{BreaksJoin, RecordsJoin, StartsOnTheRun, LeastBreakIsFirst, BreaksWithTheRun, RecordsOfTheRun};
+ghost use Rattle.epoch_run.specs.EpochLaws.{BreaksJoin, RecordsJoin, StatesJoin, FirstBrokeIsFirst, AllRanAreTheRun, StartsOnTheRun, LeastBreakIsFirst, BreaksWithTheRun, RecordsOfTheRun};
 
 /// The laws below speak of every program that is opened so: of each whose image lies in memory, and so of each flat image
 /// that is accepted.
@@ -24,10 +24,12 @@ pub fn programs_open_so()
 {}
 
 /// An epoch that is cut in two breaks where its first part does, and else where its second part does. Where the first
-/// part does not break, its records come first and then those of the second.
+/// part does not break, it comes to the state that is recorded there, and its records come first and then those of the
+/// second.
 pub fn epochs_join()
     ensures breaks { (rec : Recording) (opened : State) → IsRecordingValue rec → IsOpened opened → BreaksJoin rec opened }
     ensures records { (rec : Recording) (opened : State) (tracers : Tracers) → IsRecordingValue rec → IsOpened opened → RecordsJoin rec opened tracers }
+    ensures states { (rec : Recording) (opened : State) → IsRecordingValue rec → IsOpened opened → StatesJoin rec opened }
 {}
 
 /// The epoch from the opening state to the end is the one run, which compares nothing before its first instruction and
@@ -52,4 +54,11 @@ pub fn least_break_is_first()
 /// Where no epoch of a cutting breaks, their records in order are those of the run.
 pub fn records_are_those_of_the_run()
     ensures { (rec : Recording) (opened : State) (tracers : Tracers) (places : List ℕ) → IsRecordingValue rec → IsOpened opened → IsCutting (end_place rec) places → RecordsOfTheRun rec opened tracers places }
+{}
+
+/// The same by the values of the epochs: the first that broke has the first break of the run; and where all ran, the run
+/// does not break, and what they left in order is what the run leaves.
+pub fn values_are_the_run()
+    ensures broke { (rec : Recording) (opened : State) (tracers : Tracers) (places : List ℕ) → IsRecordingValue rec → IsOpened opened → IsCutting (end_place rec) places → FirstBrokeIsFirst rec opened tracers places }
+    ensures ran { (rec : Recording) (opened : State) (tracers : Tracers) (places : List ℕ) → IsRecordingValue rec → IsOpened opened → IsCutting (end_place rec) places → AllRanAreTheRun rec opened tracers places }
 {}
