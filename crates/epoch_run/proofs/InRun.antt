@@ -3,7 +3,7 @@
 use Rattle.std.specs.Prelude.{if◌then◌else◌, ◌||◌, nat_le, nat_eq, ◌==◌, max, IfSome, is_some, slice_get, slice_set, slice_index}
 use Rattle.std.specs.Option.{option_map}
 use Rattle.std.specs.FinMap.{get}
-use Rattle.std.proofs.Common.{◌≡◌, ℕ, ◌+◌, ◌-◌, ◌/◌, ◌%◌, ◌^◌, ◌<◌, ◌≤◌, Bool, true, false, List, length, Option, Some, None, refl, sym, ap, subst, ◌∙◌, arith}
+use Rattle.std.proofs.Common.{◌≡◌, ℕ, ◌+◌, ◌-◌, ◌/◌, ◌%◌, ◌^◌, ◌<◌, ◌≤◌, Bool, true, false, List, length, Option, Some, None, refl, sym, ap, subst, ◌∙◌, arith, le_refl}
 use Rattle.std.proofs.lemmas.Bool.{and_parts, leb-true, eqb-false}
 use Rattle.std.proofs.lemmas.Bool.Decides.{nat_tests}
 use Rattle.std.proofs.lemmas.List.{get_or-set_other}
@@ -223,9 +223,9 @@ new_end s address true is page limit below =
     let within : address ≤ s.heap_limit = leb-true address s.heap_limit (and_parts (nat_le s.brk_start address) (nat_le address s.heap_limit) is).1 in
     record { page = omega arith; from = omega arith; to = omega arith }
 
-IsInRun-brk : (opened s : State) (address : ℕ) → IsOpened opened → IsInRun opened s → IsInRun opened (brk_done s address)
-IsInRun-brk opened s address opens is =
-    let end = new_end s address (is_break s address) refl is.end_page (rw is.limit opens.limit) (rw is.limit is.end_to) in
+IsInRun-brk : (opened s : State) (address : ℕ) → opened.heap_limit % 4096 ≡ 0 → IsInRun opened s → IsInRun opened (brk_done s address)
+IsInRun-brk opened s address limit is =
+    let end = new_end s address (is_break s address) refl is.end_page (rw is.limit limit) (rw is.limit is.end_to) in
     let new : ℕ = brk_mapped_end s address in
     let to : s.brk_end / 4096 + (new / 4096 - s.brk_end / 4096) ≡ new / 4096 = omega (arith, end.from) in
     record {
@@ -263,11 +263,11 @@ one_of : (opened : State) (b : Bool) (s t : State) → IsInRun opened s → IsIn
 one_of opened true s t first second = first
 one_of opened false s t first second = second
 
-IsInRun-call : (opened s : State) (call : Call) (bytes : List ℕ) → IsOpened opened → IsInRun opened s → IsInRun opened (call_done s call bytes)
-IsInRun-call opened s call bytes opens is =
+IsInRun-call : (opened s : State) (call : Call) (bytes : List ℕ) → opened.heap_limit % 4096 ≡ 0 → IsInRun opened s → IsInRun opened (call_done s call bytes)
+IsInRun-call opened s call bytes limit is =
     one_of opened (is_outside call) (data_done s call bytes) (if call.number == brk_number then brk_done s (arg call 0) else s)
     (one_of opened (call.number == write_number) s (record s { pages = set_bytes s.pages (buffer call) bytes }) is (IsInRun-bytes opened s (buffer call) bytes is))
-    (one_of opened (call.number == brk_number) (brk_done s (arg call 0)) s (IsInRun-brk opened s (arg call 0) opens is) is)
+    (one_of opened (call.number == brk_number) (brk_done s (arg call 0)) s (IsInRun-brk opened s (arg call 0) limit is) is)
 
 -- neither does it matter which call is next and whether the program runs
 IsInRun-next_call : (opened s : State) (n : ℕ) → IsInRun opened s → IsInRun opened (record s { next_call = n })
@@ -286,12 +286,27 @@ count-call s call bytes =
     (count-if (call.number == write_number) s (record s { pages = set_bytes s.pages (buffer call) bytes }) s.count refl refl)
     (count-if (call.number == brk_number) (brk_done s (arg call 0)) s s.count refl refl)
 
+end-brk : (s : State) (address : ℕ) (allowed : Bool) → s.brk_end ≤ (if allowed then max s.brk_end (round_up 4096 address) else s.brk_end)
+end-brk s address true = omega arith
+end-brk s address false = omega arith
+
+end-if : (b : Bool) (s t : State) (n : ℕ) → n ≤ s.brk_end → n ≤ t.brk_end → n ≤ (if b then s else t).brk_end
+end-if true s t n first second = first
+end-if false s t n first second = second
+
+end-call : (s : State) (call : Call) (bytes : List ℕ) → s.brk_end ≤ (call_done s call bytes).brk_end
+end-call s call bytes =
+    end-if (is_outside call) (data_done s call bytes) (if call.number == brk_number then brk_done s (arg call 0) else s) s.brk_end
+    (end-if (call.number == write_number) s (record s { pages = set_bytes s.pages (buffer call) bytes }) s.brk_end (le_refl s.brk_end) (le_refl s.brk_end))
+    (end-if (call.number == brk_number) (brk_done s (arg call 0)) s s.brk_end (end-brk s (arg call 0) (is_break s (arg call 0))) (le_refl s.brk_end))
+
 -- ---- every instruction
 
 -- what every instruction of a run leads to
 pub record GoesOn (opened s t : State) : Type 0 where
   pub in_run : IsInRun opened t
   pub count : t.count ≡ s.count + 1
+  pub end_grows : s.brk_end ≤ t.brk_end
 
 abbrev IsKept : State → State → Onward → Type 0
 IsKept opened s (Goes t) = GoesOn opened s t
@@ -301,42 +316,48 @@ kept_exit : (opened s : State) → IsInRun opened s → GoesOn opened s (exited 
 kept_exit opened s is = record {
   in_run = IsInRun-status opened (gone_to s (after s)) (Exited (register s 10)) (IsInRun-next opened s (gone_to s (after s)) is (goes_plainly s (after s)));
   count = refl;
+  end_grows = le_refl s.brk_end;
 }
 
-kept_answer : (opened s : State) (entry : CallEntry) → IsOpened opened → IsInRun opened s → GoesOn opened s (answered s entry)
-kept_answer opened s entry opens is =
+kept_answer : (opened s : State) (entry : CallEntry) → opened.heap_limit % 4096 ≡ 0 → IsInRun opened s → GoesOn opened s (answered s entry)
+kept_answer opened s entry limit is =
     let done : State = call_done s (call_of s) entry.bytes in
     let next : State = gone_to (put_register done 10 entry.result) (after s) in
     record {
-      in_run = IsInRun-next_call opened next (s.next_call + 1) (IsInRun-next opened done next (IsInRun-call opened s (call_of s) entry.bytes opens is) (goes done 10 entry.result (after s)));
+      in_run = IsInRun-next_call opened next (s.next_call + 1) (IsInRun-next opened done next (IsInRun-call opened s (call_of s) entry.bytes limit is) (goes done 10 entry.result (after s)));
       count = ap (λ n. n + 1) (count-call s (call_of s) entry.bytes);
+      end_grows = end-call s (call_of s) entry.bytes;
     }
 
-kept_matched : (opened s : State) (entry : CallEntry) (diff : Option FieldDiff) → IsOpened opened → IsInRun opened s → IsKept opened s (matched s entry diff)
-kept_matched opened s entry None opens is = kept_answer opened s entry opens is
-kept_matched opened s entry (Some diff) opens is = tt
+kept_matched : (opened s : State) (entry : CallEntry) (diff : Option FieldDiff) → opened.heap_limit % 4096 ≡ 0 → IsInRun opened s → IsKept opened s (matched s entry diff)
+kept_matched opened s entry None limit is = kept_answer opened s entry limit is
+kept_matched opened s entry (Some diff) limit is = tt
 
-kept_called : (opened s : State) (entry : Option CallEntry) → IsOpened opened → IsInRun opened s → IsKept opened s (called s entry)
-kept_called opened s None opens is = tt
-kept_called opened s (Some entry) opens is = kept_matched opened s entry (call_diff s entry) opens is
+kept_called : (opened s : State) (entry : Option CallEntry) → opened.heap_limit % 4096 ≡ 0 → IsInRun opened s → IsKept opened s (called s entry)
+kept_called opened s None limit is = tt
+kept_called opened s (Some entry) limit is = kept_matched opened s entry (call_diff s entry) limit is
 
 kept_if : (opened s : State) (b : Bool) (x y : Onward) → IsKept opened s x → IsKept opened s y → IsKept opened s (if b then x else y)
 kept_if opened s true x y first second = first
 kept_if opened s false x y first second = second
 
-kept_step : (rec : Recording) (opened s : State) (next : Next) → IsOpened opened → IsInRun opened s → LeadsOn s next → IsKept opened s (stepped rec s next)
-kept_step rec opened s (Stepped t) opens is leads = record { in_run = IsInRun-next opened s t is leads; count = leads.count }
-kept_step rec opened s Called opens is leads =
-    kept_if opened s (is_exit (call_of s)) (Goes (exited s)) (called s (slice_get rec.calls s.next_call)) (kept_exit opened s is) (kept_called opened s (slice_get rec.calls s.next_call) opens is)
-kept_step rec opened s (Trapped number) opens is leads = tt
+kept_step : (rec : Recording) (opened s : State) (next : Next) → opened.heap_limit % 4096 ≡ 0 → IsInRun opened s → LeadsOn s next → IsKept opened s (stepped rec s next)
+kept_step rec opened s (Stepped t) limit is leads = record { in_run = IsInRun-next opened s t is leads; count = leads.count; end_grows = omega (arith, leads.brk_end) }
+kept_step rec opened s Called limit is leads =
+    kept_if opened s (is_exit (call_of s)) (Goes (exited s)) (called s (slice_get rec.calls s.next_call)) (kept_exit opened s is) (kept_called opened s (slice_get rec.calls s.next_call) limit is)
+kept_step rec opened s (Trapped number) limit is leads = tt
 
-kept_in : (rec : Recording) (opened s : State) (status : RunState) → IsOpened opened → IsInRun opened s → IsKept opened s (onward_in rec s status)
-kept_in rec opened s Running opens is = kept_step rec opened s (step s) opens is (LeadsOn-step s)
-kept_in rec opened s (Exited code) opens is = tt
+kept_in : (rec : Recording) (opened s : State) (status : RunState) → opened.heap_limit % 4096 ≡ 0 → IsInRun opened s → IsKept opened s (onward_in rec s status)
+kept_in rec opened s Running limit is = kept_step rec opened s (step s) limit is (LeadsOn-step s)
+kept_in rec opened s (Exited code) limit is = tt
 
-kept : (rec : Recording) (opened s : State) → IsOpened opened → IsInRun opened s → IsKept opened s (onward rec s)
+kept : (rec : Recording) (opened s : State) → opened.heap_limit % 4096 ≡ 0 → IsInRun opened s → IsKept opened s (onward rec s)
 unfolding onward
-kept rec opened s opens is = kept_in rec opened s s.status opens is
+kept rec opened s limit is = kept_in rec opened s s.status limit is
+
+-- from any state whose heap ends at a page
+pub IsInRun-kept : (rec : Recording) (opened s t : State) → opened.heap_limit % 4096 ≡ 0 → IsInRun opened s → onward rec s ≡ Goes t → GoesOn opened s t
+IsInRun-kept rec opened s t limit is goes = subst (IsKept opened s) goes (kept rec opened s limit is)
 
 pub IsInRun-onward : (rec : Recording) (opened s t : State) → IsOpened opened → IsInRun opened s → onward rec s ≡ Goes t → GoesOn opened s t
-IsInRun-onward rec opened s t opens is goes = subst (IsKept opened s) goes (kept rec opened s opens is)
+IsInRun-onward rec opened s t opens is goes = IsInRun-kept rec opened s t opens.limit is goes

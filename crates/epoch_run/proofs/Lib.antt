@@ -8,5 +8,6 @@ mod Joined
 mod Arrived
 mod OneRun
 mod Opening
+mod Fitting
 mod Values
 mod Rows

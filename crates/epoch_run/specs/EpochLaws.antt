@@ -32,6 +32,7 @@ StatesJoin rec opened =
 
 -- ---- the epochs of a cutting, from each place to the next
 
+-- how many they are
 abbrev pub epochs_of : List ℕ → ℕ
 epochs_of places = length places - 1
 

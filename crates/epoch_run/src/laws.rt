@@ -3,13 +3,15 @@
 
 ghost use Rattle.std.specs.Prelude.{◌≡◌, ℕ, List, Ok};
 ghost use Rattle.std.specs.List.{AllByRecursion};
-ghost use Rattle.sl_model.specs.State.{State};
+ghost use Rattle.sl_model.specs.State.{State, IsState, Fits};
 ghost use Rattle.rec_format.specs.declared.recording.Recording.{Recording};
 ghost use Rattle.rec_format.specs.Rules.{IsRecordingValue};
 ghost use Rattle.elf_image.specs.declared.image.Image.{Image};
 ghost use Rattle.elf_image.specs.Flat.{flat_image};
 ghost use Rattle.replay.specs.Opening.{opening};
+ghost use Rattle.replay.specs.Run.{Goes, onward};
 ghost use Rattle.replay.specs.Breaks.{first_break};
+ghost use Rattle.replay.specs.Recorded.{recorded_state};
 ghost use Rattle.epoch_cut.specs.Places.{IsCutting};
 ghost use Rattle.epoch_run.specs.Records.{Tracers, records};
 ghost use Rattle.epoch_run.specs.Epochs.{end_place, epoch_break, epoch_records};
@@ -23,6 +25,13 @@ pub fn programs_open_so()
     ensures flat { (address : ℕ) (bytes : List ℕ) (image : Image) (args : List (List ℕ)) → flat_image address bytes ≡ Ok image → IsOpened (opening image args) }
 {}
 
+/// Memory and heap stay laid out as a program's at every instruction of a replay, and they are so in every state that a
+/// checkpoint records, also in one that no run ever had.
+pub fn runs_fit()
+    ensures kept { (rec : Recording) (s t : State) → IsState s → Fits s → onward rec s ≡ Goes t → Fits t }
+    ensures recorded { (rec : Recording) (opened : State) (k : ℕ) → IsRecordingValue rec → IsOpened opened → Fits opened → Fits (recorded_state rec opened k) }
+{}
+
 /// An epoch that is cut in two breaks where its first part does, and else where its second part does. Where the first
 /// part does not break, it comes to the state that is recorded there, and its records come first and then those of the
 /// second.
@@ -32,8 +41,7 @@ pub fn epochs_join()
     ensures states { (rec : Recording) (opened : State) → IsRecordingValue rec → IsOpened opened → StatesJoin rec opened }
 {}
 
-/// The epoch from the opening state to the end is the one run, which compares nothing before its first instruction and
-/// every checkpoint after it.
+/// The epoch from the opening state to the end is the one run.
 pub fn one_epoch_is_the_run()
     ensures breaks { (rec : Recording) (opened : State) → first_break rec opened ≡ epoch_break rec opened 0 (end_place rec) }
     ensures records { (rec : Recording) (opened : State) (tracers : Tracers) → records rec tracers opened ≡ epoch_records rec opened tracers 0 (end_place rec) }

@@ -1,0 +1,8 @@
+use Rattle.epoch_run.proofs.Fitting.{Fits-onward, Fits-recorded}
+use Rattle.epoch_run.proofs.laws.runs_fit.Goals as goal
+
+pub returns-clause-kept : goal.returns-clause-kept
+returns-clause-kept c rec s t is fits goes = Fits-onward rec s t is fits goes
+
+pub returns-clause-recorded : goal.returns-clause-recorded
+returns-clause-recorded c rec opened k is opens fits = Fits-recorded rec opened k is opens fits
