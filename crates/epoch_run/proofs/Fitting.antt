@@ -24,7 +24,7 @@ use Rattle.epoch_run.proofs.Recorded.{IsInRun-recorded}
 
 -- ---- how many pages lie outside of the heap
 
-abbrev is_outside : ℕ → ℕ → ℕ → Bool
+abbrev pub is_outside : ℕ → ℕ → ℕ → Bool
 is_outside start limit page = not (nat_le start (page * 4096) && nat_lt (page * 4096) limit)
 
 abbrev Entries : Type 0
@@ -79,7 +79,7 @@ member p pages q =
     ∙ ap (λ b. b && p q) (sym (contains_key-keys pages q))
 
 -- memories with the same pages outside have as many of them
-same_number : (p : ℕ → Bool) (a b : Pages) → ((q : ℕ) → (is_some (get a q) && p q) ≡ (is_some (get b q) && p q)) → length (filter p (keys a)) ≡ length (filter p (keys b))
+pub same_number : (p : ℕ → Bool) (a b : Pages) → ((q : ℕ) → (is_some (get a q) && p q) ≡ (is_some (get b q) && p q)) → length (filter p (keys a)) ≡ length (filter p (keys b))
 same_number p a b same = length-from_same_keys (eq_by_cmp_equiv nat_cmp_total) (filter p (keys a)) (filter p (keys b)) (distinct_keys p a) (distinct_keys p b) (λ q. member p a q ∙ same q ∙ sym (member p b q))
 
 -- ---- a heap that grew
@@ -131,7 +131,7 @@ Fits-grows s t fits grows = record {
 
 -- ---- a run from a state that fits
 
-among_is : (start end page : ℕ) → is_among (start / 4096) (end / 4096) page ≡ true → end % 4096 ≡ 0 → start % 4096 ≡ 0 → (start ≤ page * 4096) × (page * 4096 < end)
+pub among_is : (start end page : ℕ) → is_among (start / 4096) (end / 4096) page ≡ true → end % 4096 ≡ 0 → start % 4096 ≡ 0 → (start ≤ page * 4096) × (page * 4096 < end)
 among_is start end page is end_page start_page =
     let parts = and_parts (nat_le (start / 4096) page) (nat_lt page (end / 4096)) is in
     let low : start / 4096 ≤ page = leb-true (start / 4096) page parts.0 in

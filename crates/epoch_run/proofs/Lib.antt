@@ -9,5 +9,6 @@ mod Arrived
 mod OneRun
 mod Opening
 mod Fitting
+mod OpeningFits
 mod Values
 mod Rows

@@ -25,9 +25,10 @@ pub fn programs_open_so()
     ensures flat { (address : ℕ) (bytes : List ℕ) (image : Image) (args : List (List ℕ)) → flat_image address bytes ≡ Ok image → IsOpened (opening image args) }
 {}
 
-/// Memory and heap stay laid out as a program's at every instruction of a replay, and they are so in every state that a
-/// checkpoint records, also in one that no run ever had.
+/// Memory and heap are laid out as a program's in the opening state of a flat image; they stay so at every instruction of
+/// a replay, and are so in every state that a checkpoint records, also in one that no run ever had.
 pub fn runs_fit()
+    ensures opening { (address : ℕ) (bytes : List ℕ) (image : Image) (args : List (List ℕ)) → flat_image address bytes ≡ Ok image → Fits (opening image args) }
     ensures kept { (rec : Recording) (s t : State) → IsState s → Fits s → onward rec s ≡ Goes t → Fits t }
     ensures recorded { (rec : Recording) (opened : State) (k : ℕ) → IsRecordingValue rec → IsOpened opened → Fits opened → Fits (recorded_state rec opened k) }
 {}
