@@ -1,5 +1,6 @@
 -- Schedules that were worked by hand.
-use Rattle.std.proofs.Common.{◌≡◌, List, [], ◌∷◌, Some, None, true, refl}
+use Rattle.std.proofs.Common.{◌≡◌, ℕ, zero, suc, List, [], ◌∷◌, Some, None, true, inl, inr, refl, ap, arith}
+use Rattle.std.specs.List.{Contains}
 use Rattle.call_log.specs.declared.breaks.Break.{Break}
 use Rattle.call_log.specs.declared.breaks.BreakKind.TheVariants.{CheckpointDiffers}
 use Rattle.tracer_lang.specs.declared.record.Record.{Record}
@@ -9,7 +10,7 @@ use Rattle.epoch_core.specs.declared.event.CoreEvent.TheVariants.{Claim, Finish,
 use Rattle.epoch_core.specs.declared.post.Post.{Post}
 use Rattle.epoch_core.specs.declared.post.PostValue.{PostValue}
 use Rattle.epoch_core.specs.declared.post.PostValue.TheVariants.{Ran, Broke, Skipped}
-use Rattle.epoch_core.specs.Posts.{post_of}
+use Rattle.epoch_core.specs.Posts.{Posted, post_of}
 use Rattle.epoch_core.specs.Schedule.{start, new_seat, claim, finish, skip, leave, posted, after, run_events, trays_of}
 
 -- the record of a tracepoint in the second of two epochs
@@ -30,13 +31,22 @@ first_breaks = Broke first_break ∷ Ran [] ∷ []
 abbrev two_trays : List PostValue → List CoreEvent → List (List Post)
 two_trays values events = trays_of (run_events values (start 2) events)
 
-in_turn : two_trays both_run (Claim 0 ∷ Claim 1 ∷ Finish 1 ∷ Finish 0 ∷ [])
-    ≡ (post_of 0 (Ran []) ∷ []) ∷ (post_of 1 (Ran (record_of_two ∷ [])) ∷ []) ∷ []
+-- both epochs are claimed and posted: no worker holds one, and no number is left
+in_turn : run_events both_run (start 2) (Claim 0 ∷ Claim 1 ∷ Finish 1 ∷ Finish 0 ∷ [])
+    ≡ record {
+      next = 2;
+      low = None;
+      seats = record new_seat { tray = post_of 0 (Ran []) ∷ [] } ∷ record new_seat { tray = post_of 1 (Ran (record_of_two ∷ [])) ∷ [] } ∷ [];
+    }
 unfolding run_events after claim finish posted
 in_turn = refl
 
-skips : two_trays first_breaks (Claim 0 ∷ Finish 0 ∷ Claim 1 ∷ Skip 1 ∷ [])
-    ≡ (post_of 0 (Broke first_break) ∷ []) ∷ (post_of 1 (Skipped 0) ∷ []) ∷ []
+skips : run_events first_breaks (start 2) (Claim 0 ∷ Finish 0 ∷ Claim 1 ∷ Skip 1 ∷ [])
+    ≡ record {
+      next = 2;
+      low = Some 0;
+      seats = record new_seat { tray = post_of 0 (Broke first_break) ∷ [] } ∷ record new_seat { tray = post_of 1 (Skipped 0) ∷ [] } ∷ [];
+    }
 unfolding run_events after claim finish skip posted
 skips = refl
 
@@ -62,3 +72,29 @@ leaves_once = refl
 keeps_least : (run_events (Broke first_break ∷ Broke first_break ∷ []) (start 2) (Claim 0 ∷ Claim 1 ∷ Finish 1 ∷ Finish 0 ∷ [])).low ≡ Some 0
 unfolding run_events after claim finish posted
 keeps_least = refl
+
+-- what is not whole: an epoch without a post, and one with two
+lacks_one : Posted both_run (post_of 0 (Ran []) ∷ []) → ⊥
+lacks_one posted =
+    let none : 0 ≡ 1 = posted.once 1 (omega arith) in
+    absurd (omega (arith, none))
+
+has_two : Posted (Ran [] ∷ []) (post_of 0 (Ran []) ∷ post_of 0 (Ran []) ∷ []) → ⊥
+has_two posted =
+    let two : 2 ≡ 1 = posted.once 0 (omega arith) in
+    absurd (omega (arith, two))
+
+-- and a skip below an epoch that ran
+abbrev ran_and_skipped : List Post
+ran_and_skipped = post_of 0 (Ran []) ∷ post_of 1 (Skipped 0) ∷ []
+
+none_broke : (below : ℕ) (first : Break) → Contains ran_and_skipped (post_of below (Broke first)) → ⊥
+none_broke below first (zero, within, is) = let other : Ran [] ≡ Broke first = ap (λ (post : Post). post.value) is in cc
+none_broke below first (suc zero, within, is) = let other : Skipped 0 ≡ Broke first = ap (λ (post : Post). post.value) is in cc
+none_broke below first (suc (suc k), within, is) = absurd (omega arith)
+
+skips_nothing : Posted both_run ran_and_skipped → ⊥
+skips_nothing posted = elim (posted.right 1 (post_of 0 (Ran [])) (omega arith)) [
+  | inl own ↦ let other : Some (Ran (record_of_two ∷ [])) ≡ Some (Skipped 0) = own in cc
+  | inr skip ↦ none_broke skip.0 skip.3.0 skip.3.1
+]

@@ -1,5 +1,5 @@
 -- Epochs whose values are listed by hand, for tests.
-use Rattle.std.specs.Prelude.{◌≡◌, ℕ, List, [], ◌∷◌, map, All, Option, Some, None, Result, Ok, Err, slice_index_or}
+use Rattle.std.specs.Prelude.{ℕ, List, [], ◌∷◌, map, All, Option, Some, None, Result, Ok, Err, slice_index_or}
 use Rattle.call_log.specs.declared.breaks.Break.{Break}
 use Rattle.tracer_lang.specs.declared.record.Record.{Record}
 use Rattle.tracer_lang.specs.declared.record.TracerEnd.TheVariants.{Done}
