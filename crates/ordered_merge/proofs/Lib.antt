@@ -1,0 +1,4 @@
+pub mod LeastLemmas
+pub mod Placed
+pub mod Rows
+pub mod Theorem

@@ -1,0 +1,103 @@
+-- The least epoch whose post says that it broke is the first that broke; and where no post says so, none was skipped.
+use Rattle.std.proofs.Common.{◌≡◌, ℕ, zero, suc, ◌<◌, Bool, true, false, cond, eqb, List, [], ◌∷◌, length, Some, None, Ok, Err, inl, inr, refl, ap, subst, arith}
+use Rattle.std.specs.List.{All, Contains, count_by, filter_map, flat_map, slice_get}
+use Rattle.std.proofs.lemmas.Bool.{eqb-true}
+use Rattle.std.proofs.lemmas.List.Sums.{sum_by-cons}
+use Rattle.std.proofs.lemmas.List.Elements.{All-contains, Contains-append_right}
+use Rattle.std.proofs.lemmas.Option.{slice_get_within}
+use Rattle.call_log.specs.declared.breaks.Break.{Break}
+use Rattle.tracer_lang.specs.declared.record.Record.{Record}
+use Rattle.epoch_core.specs.declared.post.Post.{Post}
+use Rattle.epoch_core.specs.declared.post.PostValue.{PostValue}
+use Rattle.epoch_core.specs.declared.post.PostValue.TheVariants.{Ran, Broke, Skipped}
+use Rattle.epoch_core.specs.Posts.{Posted, IsRight, post_of}
+use Rattle.ordered_merge.specs.declared.least.BrokenEpoch.{BrokenEpoch}
+use Rattle.ordered_merge.specs.Least.{IsLeast}
+use Rattle.ordered_merge.specs.Merged.{merged, unless_broken, break_in, records_in, BreaksFirstAt, NoneBroke}
+
+-- ---- what the merge means
+
+no_breaks : (values : List PostValue) → NoneBroke values → filter_map break_in values ≡ []
+no_breaks [] none = refl
+no_breaks (Ran records ∷ values) none = no_breaks values (λ k first. none (suc k) first)
+no_breaks (Broke first ∷ values) none = absurd (none zero first refl)
+no_breaks (Skipped below ∷ values) none = no_breaks values (λ k first. none (suc k) first)
+
+pub merged_ran : (values : List PostValue) → NoneBroke values → merged values ≡ Ok (flat_map records_in values)
+unfolding merged
+merged_ran values none = ap (λ breaks. unless_broken breaks (flat_map records_in values)) (no_breaks values none)
+
+later : (value : PostValue) (values : List PostValue) (k : ℕ) (first : Break) → BreaksFirstAt (value ∷ values) (suc k) first → BreaksFirstAt values k first
+later value values k first at = record { broke = at.broke; least = λ j earlier less. at.least (suc j) earlier (omega arith) }
+
+first_break : (values : List PostValue) (k : ℕ) (first : Break) (records : List Record) → BreaksFirstAt values k first
+    → unless_broken (filter_map break_in values) records ≡ Err first
+first_break [] k first records at = absurd (let broke = at.broke in cc)
+first_break (Ran left ∷ values) zero first records at = absurd (let broke = at.broke in cc)
+first_break (Ran left ∷ values) (suc k) first records at = first_break values k first records (later (Ran left) values k first at)
+first_break (Broke own ∷ values) zero first records at = let broke = at.broke in cc
+first_break (Broke own ∷ values) (suc k) first records at = absurd (at.least zero own (omega arith) refl)
+first_break (Skipped below ∷ values) zero first records at = absurd (let broke = at.broke in cc)
+first_break (Skipped below ∷ values) (suc k) first records at = first_break values k first records (later (Skipped below) values k first at)
+
+pub merged_broke : (values : List PostValue) (k : ℕ) (first : Break) → BreaksFirstAt values k first → merged values ≡ Err first
+unfolding merged
+merged_broke values k first at = first_break values k first (flat_map records_in values) at
+
+-- ---- each epoch has a post
+
+-- what is counted is in the list
+counted : {X : Type 0} (p : X → Bool) (xs : List X) → 0 < count_by p xs → (x : X) × Contains xs x × (p x ≡ true)
+counted {X} p [] h = absurd (omega arith)
+counted {X} p (x ∷ xs) h =
+    elim (p x) as (λ b. p x ≡ b → (y : X) × Contains (x ∷ xs) y × ◌≡◌ {A = Bool} (p y) true) [
+      | true ↦ λ is. (x, (0, omega arith, refl), is)
+      | false ↦ λ is.
+          let one : ◌≡◌ {A = ℕ} (cond (p x) 1 0) 0 = ap (λ b. cond b 1 0) is in
+          let rest = counted p xs (omega (arith, sum_by-cons (λ y. cond (p y) 1 0) x xs, one)) in
+          (rest.0, Contains-append_right (x ∷ []) xs rest.0 rest.1, rest.2)
+    ] refl
+
+has_post : (values : List PostValue) (posts : List Post) (k : ℕ) → Posted values posts → k < length values → (value : PostValue) × Contains posts (post_of k value)
+has_post values posts k posted within =
+    let found = counted (λ (post : Post). eqb post.epoch k) posts (omega (arith, posted.once k within)) in
+    (found.0.value, subst (λ n. Contains posts (post_of n found.0.value)) (eqb-true found.0.epoch k found.2) found.1)
+
+-- ---- what the posts say
+
+-- an epoch that broke below all others that did: its value is its own, since a skip names a smaller one
+pub least_is_first : (values : List PostValue) (posts : List Post) (broken : BrokenEpoch) → Posted values posts → IsLeast posts (Some broken)
+    → BreaksFirstAt values broken.epoch broken.first
+least_is_first values posts broken posted least =
+    record {
+      broke = elim (All-contains (IsRight values posts) posts (post_of broken.epoch (Broke broken.first)) posted.right least.0) [
+        | inl own ↦ own
+        | inr skip ↦ absurd (let h = skip.1 in cc)
+      ];
+      least = λ j earlier less is.
+          let post = has_post values posts j posted (slice_get_within values j (Broke earlier) is) in
+          elim (All-contains (IsRight values posts) posts (post_of j post.0) posted.right post.1) [
+            | inl own ↦
+                let same : post.0 ≡ Broke earlier = cc in
+                let above = least.1 j (earlier, subst (λ v. Contains posts (post_of j v)) same post.1) in
+                omega arith
+            | inr skip ↦ let above = least.1 skip.0 skip.3 in let below = skip.2 in omega arith
+          ];
+    }
+
+-- where no post says that its epoch broke, none is skipped, and each has its epoch's value
+pub all_own : (values : List PostValue) (posts : List Post) → Posted values posts → IsLeast posts None
+    → All (λ (post : Post). slice_get values post.epoch ≡ Some post.value) posts
+all_own values posts posted none i d within =
+    elim (posted.right i d within) [
+      | inl own ↦ own
+      | inr skip ↦ absurd (none skip.0 skip.3)
+    ]
+
+pub none_broke : (values : List PostValue) (posts : List Post) → Posted values posts → IsLeast posts None → NoneBroke values
+none_broke values posts posted none k first is =
+    let post = has_post values posts k posted (slice_get_within values k (Broke first) is) in
+    let own : slice_get values k ≡ Some post.0 =
+    All-contains (λ (p : Post). slice_get values p.epoch ≡ Some p.value) posts (post_of k post.0) (all_own values posts posted none) post.1 in
+    let same : post.0 ≡ Broke first = cc in
+    none k (first, subst (λ v. Contains posts (post_of k v)) same post.1)

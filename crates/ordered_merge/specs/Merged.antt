@@ -1,0 +1,53 @@
+-- What the epochs of a run come to together.
+use Rattle.std.specs.Prelude.{◌≡◌, ◌≢◌, ℕ, ◌<◌, ⊤, List, [], ◌∷◌, Option, Some, None, Result, Ok, Err, slice_get}
+use Rattle.std.specs.List.{filter_map, flat_map}
+use Rattle.sl_base.specs.declared.refused.Refused.{Refused}
+use Rattle.sl_base.specs.declared.refused.Refused.TheVariants as refused
+use Rattle.call_log.specs.declared.breaks.Break.{Break}
+use Rattle.tracer_lang.specs.declared.record.Record.{Record}
+use Rattle.epoch_core.specs.declared.post.PostValue.{PostValue}
+use Rattle.epoch_core.specs.declared.post.PostValue.TheVariants.{Ran, Broke, Skipped}
+
+-- the records of an epoch that ran
+abbrev pub records_in : PostValue → List Record
+records_in (Ran records) = records
+records_in (Broke first) = []
+records_in (Skipped below) = []
+
+-- the break of an epoch that broke
+abbrev pub break_in : PostValue → Option Break
+break_in (Ran records) = None
+break_in (Broke first) = Some first
+break_in (Skipped below) = None
+
+-- these records, where there is no break, and else the first of the breaks
+abbrev pub unless_broken : List Break → List Record → Result (List Record) Break
+unless_broken [] records = Ok records
+unless_broken (first ∷ later) records = Err first
+
+-- the records of all epochs in order, where none broke, and else the break of the first that did
+unfoldable pub merged : List PostValue → Result (List Record) Break
+merged values = unless_broken (filter_map break_in values) (flat_map records_in values)
+
+-- ---- what it means
+
+-- epoch k broke so, and none before it broke
+pub record BreaksFirstAt (values : List PostValue) (k : ℕ) (first : Break) : Type 0 where
+  pub broke : slice_get values k ≡ Some (Broke first)
+  pub least : (j : ℕ) (earlier : Break) → j < k → slice_get values j ≢ Some (Broke earlier)
+
+-- no epoch broke
+abbrev pub NoneBroke : List PostValue → Type 0
+NoneBroke values = (k : ℕ) (first : Break) → slice_get values k ≢ Some (Broke first)
+
+-- ---- what a call says of it
+
+-- a refusal is for the break, or memory was wanting
+abbrev pub Fails : Refused Break → Result (List Record) Break → Type 0
+Fails refused.Memory whole = ⊤
+Fails (refused.Fault first) whole = whole ≡ Err first
+
+-- what a call returned is the merge, unless memory was wanting
+abbrev pub Tells : Result (List Record) (Refused Break) → Result (List Record) Break → Type 0
+Tells (Ok records) whole = whole ≡ Ok records
+Tells (Err e) whole = Fails e whole

@@ -1,0 +1,10 @@
+//! The posts of all epochs, merged in the order of the epochs.
+#![tactic(auto)]
+
+mod laws;
+mod least;
+mod merging;
+mod parts;
+
+pub use laws::merged_means;
+pub use merging::merge;
