@@ -1,6 +1,6 @@
 -- Where a replay first differs from its recording.
-use Rattle.std.specs.Prelude.{◌≡◌, ℕ, zero, suc, ◌+◌, ◌-◌, ◌*◌, ◌^◌, ◌==◌, ◌&&◌, ◌||◌, Bool, true, false, List, [], ◌∷◌, ◌++◌, length, take, drop, Option, Some, None, is_some, unwrap_or, slice_get, nat_lt, find, if◌then◌else◌}
-use Rattle.std.specs.List.{flat_map, filter_map, range_with_len}
+use Rattle.std.specs.Prelude.{ℕ, zero, suc, ◌+◌, ◌*◌, ◌^◌, ◌==◌, ◌||◌, Bool, true, false, List, [], ◌∷◌, ◌++◌, length, take, drop, Option, Some, None, unwrap_or, nat_lt, if◌then◌else◌}
+use Rattle.std.specs.List.{flat_map, range_with_len}
 use Rattle.std.specs.FinMap.{get}
 use Rattle.sl_model.specs.declared.run_state.RunState.{RunState}
 use Rattle.sl_model.specs.declared.run_state.RunState.TheVariants.{Running, Exited}

@@ -1,11 +1,10 @@
 -- System calls in a replay: what a program asks, what a recorded call has to be, and the state after it.
-use Rattle.std.specs.Prelude.{◌≡◌, ℕ, zero, suc, ◌+◌, ◌-◌, ◌*◌, ◌/◌, ◌^◌, ◌==◌, ◌&&◌, ◌||◌, Bool, true, false, List, [], ◌∷◌, ◌++◌, length, min, max, map, Option, Some, None, is_some, unwrap_or, slice_index, nat_lt, nat_le, not, if◌then◌else◌}
-use Rattle.std.specs.Option.{option_map}
+use Rattle.std.specs.Prelude.{ℕ, ◌+◌, ◌-◌, ◌/◌, ◌==◌, ◌&&◌, ◌||◌, Bool, List, [], ◌∷◌, length, min, max, map, Option, Some, None, is_some, unwrap_or, slice_index, nat_le, not, if◌then◌else◌}
 use Rattle.sl_base.specs.declared.call.Call.{Call}
 use Rattle.sl_base.specs.World.{read_number, write_number, getrandom_number, error_result, is_error}
 use Rattle.sl_model.specs.declared.run_state.RunState.TheVariants.{Exited}
-use Rattle.sl_model.specs.Pages.{Pages, bytes_at, set_bytes}
-use Rattle.sl_model.specs.State.{State, register, set_register}
+use Rattle.sl_model.specs.Pages.{bytes_at, set_bytes}
+use Rattle.sl_model.specs.State.{State, register}
 use Rattle.sl_model.specs.Step.{gone_to, after, put_register}
 use Rattle.call_log.specs.declared.entry.CallEntry.{CallEntry}
 use Rattle.replay.specs.Opening.{map_pages, round_up}

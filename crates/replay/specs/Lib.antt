@@ -3,3 +3,4 @@ pub mod Calls
 pub mod Run
 pub mod Breaks
 pub mod Recorded
+pub mod Advance

@@ -1,5 +1,5 @@
 -- The state that a checkpoint records, as far as it can be one.
-use Rattle.std.specs.Prelude.{ℕ, zero, suc, ◌+◌, ◌-◌, ◌*◌, ◌/◌, List, [], ◌∷◌, min, max, Option, Some, None, slice_get, if◌then◌else◌}
+use Rattle.std.specs.Prelude.{ℕ, zero, suc, ◌-◌, ◌*◌, ◌/◌, List, [], ◌∷◌, min, max, Option, Some, None, slice_get, if◌then◌else◌}
 use Rattle.std.specs.FinMap.{insert, contains_key}
 use Rattle.sl_model.specs.declared.run_state.RunState.TheVariants.{Running}
 use Rattle.sl_model.specs.Pages.{Pages}
@@ -8,7 +8,7 @@ use Rattle.rec_format.specs.declared.recording.Recording.{Recording}
 use Rattle.rec_format.specs.declared.recording.CheckpointData.{CheckpointData}
 use Rattle.rec_format.specs.declared.recording.ListedPage.{ListedPage}
 use Rattle.replay.specs.Opening.{map_pages}
-use Rattle.replay.specs.Breaks.{all_checkpoints, listings}
+use Rattle.replay.specs.Breaks.{listings}
 
 -- The mapped end that a checkpoint records. One that no run has, which is no multiple of 4,096 from the heap's start to
 -- its limit, stands for the greatest such number below it, or for the heap's start where there is none.

@@ -1,5 +1,5 @@
 -- The run of a recording from its first instruction.
-use Rattle.std.specs.Prelude.{ℕ, zero, suc, ◌+◌, List, Option, Some, None, slice_get, if◌then◌else◌}
+use Rattle.std.specs.Prelude.{ℕ, zero, suc, Option, Some, None, slice_get, if◌then◌else◌}
 use Rattle.sl_model.specs.declared.run_state.RunState.{RunState}
 use Rattle.sl_model.specs.declared.run_state.RunState.TheVariants.{Running, Exited}
 use Rattle.sl_model.specs.State.{State}

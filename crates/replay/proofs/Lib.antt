@@ -1,0 +1,2 @@
+pub mod Onward
+mod AtEnd

@@ -1,0 +1,7 @@
+use Rattle.std.proofs.Common.{refl, sym, ap, ◌∙◌}
+use Rattle.replay.specs.Run.{Breaks}
+use Rattle.replay.proofs.Onward.{onward_over}
+use Rattle.replay.proofs.advancing.advance_one.Goals as goal
+
+pub returns-in-Exited-clause-onward : goal.returns-in-Exited-clause-onward
+returns-in-Exited-clause-onward g c = (onward_over _ _ c.in-Exited.field-0 c.in-Exited.is ∙ ap Breaks (sym c.early_end.ensures), refl, refl)
