@@ -7,4 +7,5 @@ pub mod ItemLaws
 pub mod LastListing
 pub mod Lengths
 pub mod RecordingLaws
+pub mod RisingPages
 pub mod Sums
