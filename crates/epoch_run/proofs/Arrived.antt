@@ -53,11 +53,11 @@ goes_onto opened rec a b n s none = onto opened rec a b n s (listed_break opened
 
 -- ---- the run
 
-run-suc : (rec : Recording) (s t : State) (n : ℕ) → onward rec s ≡ Goes t → run_from rec s (suc n) ≡ run_from rec t n
+pub run-suc : (rec : Recording) (s t : State) (n : ℕ) → onward rec s ≡ Goes t → run_from rec s (suc n) ≡ run_from rec t n
 unfolding run_from
 run-suc rec s t n goes = ap (state_after (λ u. run_from rec u n)) goes
 
-run-zero : (rec : Recording) (s : State) → run_from rec s 0 ≡ Some s
+pub run-zero : (rec : Recording) (s : State) → run_from rec s 0 ≡ Some s
 unfolding run_from
 run-zero rec s = refl
 

@@ -11,4 +11,5 @@ mod Opening
 mod Fitting
 mod OpeningFits
 mod Values
+mod RunEnd
 mod Rows

@@ -62,7 +62,7 @@ run_joins rec opened a b c is opens cut none =
 
 -- ---- the epoch from the opening state to the end
 
-last_is_last : (rec : Recording) → checkpoint_at rec (end_place rec) ≡ rec.last
+pub last_is_last : (rec : Recording) → checkpoint_at rec (end_place rec) ≡ rec.last
 last_is_last rec =
     let suc_is : end_place rec ≡ suc (length rec.checkpoints) = omega arith in
     ap (checkpoint_at rec) suc_is ∙ checkpoint_at-suc rec (length rec.checkpoints) ∙ get_or_past rec.checkpoints (length rec.checkpoints) rec.last (omega arith)
@@ -75,7 +75,7 @@ last_count rec =
 all_between : (rec : Recording) → between rec 0 (end_place rec) ≡ rec.checkpoints
 all_between rec = take_all (end_place rec - 1 - 0) rec.checkpoints (omega arith)
 
-whole_break : (opened : Pages) (rec : Recording) (n : ℕ) (s : State) → first_break_from opened rec s n ≡ epoch_break_from opened rec 0 (end_place rec) s n
+pub whole_break : (opened : Pages) (rec : Recording) (n : ℕ) (s : State) → first_break_from opened rec s n ≡ epoch_break_from opened rec 0 (end_place rec) s n
 unfolding first_break_from epoch_break_from
 whole_break opened rec zero s =
     let k : ℕ = end_place rec in

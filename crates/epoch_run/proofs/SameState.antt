@@ -21,7 +21,7 @@ use Rattle.epoch_run.proofs.Recorded.{get-recorded_pages, length-recorded_page, 
 
 -- ---- where nothing differs
 
-first_none : {A : Type 0} (x y : Option A) → (x else_try y) ≡ None → x ≡ None
+pub first_none : {A : Type 0} (x y : Option A) → (x else_try y) ≡ None → x ≡ None
 first_none None y none = refl
 first_none (Some x) y none = none
 
@@ -81,7 +81,7 @@ none_of_five a b c d e none =
     let two = first_none (a else_try b) c three in
     (first_none a b two, second_none a b two, second_none (a else_try b) c three, second_none (a else_try b else_try c) d four, second_none (a else_try b else_try c else_try d) e none)
 
-same_machine : (checkpoint : CheckpointData) (s : State) → machine_diff checkpoint s ≡ None → IsSameMachine checkpoint s
+pub same_machine : (checkpoint : CheckpointData) (s : State) → machine_diff checkpoint s ≡ None → IsSameMachine checkpoint s
 unfolding machine_diff
 same_machine checkpoint s none =
     let parts = none_of_five (part_diff 0 checkpoint.pc s.pc) (parts_diff 1 checkpoint.x (drop 1 s.x)) (part_diff 32 checkpoint.brk s.brk) (part_diff 33 checkpoint.brk_end s.brk_end) (part_diff 34 checkpoint.next_call s.next_call) none in
@@ -94,7 +94,7 @@ same_machine checkpoint s none =
     }
 
 -- x0 and the registers behind it
-all_registers : (x rest : List ℕ) → length x ≡ 32 → length rest ≡ 31 → slice_index x 0 ≡ 0 → parts_diff 1 rest (drop 1 x) ≡ None → x ≡ 0 ∷ rest
+pub all_registers : (x rest : List ℕ) → length x ≡ 32 → length rest ≡ 31 → slice_index x 0 ≡ 0 → parts_diff 1 rest (drop 1 x) ≡ None → x ≡ 0 ∷ rest
 all_registers [] rest long short first none = absurd (omega arith)
 all_registers (y ∷ x) rest long short first none =
     let same : rest ≡ x = same_parts 1 rest x (omega arith) none in

@@ -1,5 +1,5 @@
 -- Why the epochs of a cutting are the one run.
-use Rattle.std.specs.Prelude.{◌≡◌, ℕ, ◌+◌, ◌-◌, ◌<◌, ◌≤◌, ◌↔◌, List, length, Option, Some, None, slice_index, ◌++◌}
+use Rattle.std.specs.Prelude.{◌≡◌, ℕ, ◌+◌, ◌-◌, ◌<◌, ◌≤◌, ◌↔◌, List, length, Option, Some, None, slice_index, ◌∷◌, ◌++◌}
 use Rattle.std.specs.List.{flat_map, range_with_len}
 use Rattle.sl_model.specs.State.{State}
 use Rattle.call_log.specs.declared.breaks.Break.{Break}
@@ -90,3 +90,15 @@ abbrev pub AllRanAreTheRun : Recording → State → Tracers → List ℕ → Ty
 AllRanAreTheRun rec opened tracers places =
     (left : ℕ → List Record) → AllRan rec opened tracers places left (epochs_of places)
     → (first_break rec opened ≡ None) × (flat_map left (range_with_len 0 (epochs_of places)) ≡ records rec tracers opened)
+
+-- ---- the end of the run
+
+-- a state has the count, the program counter and the registers of the end's checkpoint
+pub record IsAtEnd (rec : Recording) (last : State) : Type 0 where
+  pub count : last.count ≡ rec.last.count
+  pub pc : last.pc ≡ rec.last.pc
+  pub x : last.x ≡ 0 ∷ rec.last.x
+
+-- a run that does not break comes to the recorded end
+abbrev pub ComesToTheEnd : Recording → State → Type 0
+ComesToTheEnd rec opened = first_break rec opened ≡ None → (last : State) × (run_from rec opened rec.last.count ≡ Some last) × IsAtEnd rec last

@@ -16,7 +16,7 @@ ghost use Rattle.epoch_cut.specs.Places.{IsCutting};
 ghost use Rattle.epoch_run.specs.Records.{Tracers, records};
 ghost use Rattle.epoch_run.specs.Epochs.{end_place, epoch_break, epoch_records};
 ghost use Rattle.epoch_run.specs.Opened.{IsOpened, IsInMemory};
-ghost use Rattle.epoch_run.specs.EpochLaws.{BreaksJoin, RecordsJoin, StatesJoin, FirstBrokeIsFirst, AllRanAreTheRun, StartsOnTheRun, LeastBreakIsFirst, BreaksWithTheRun, RecordsOfTheRun};
+ghost use Rattle.epoch_run.specs.EpochLaws.{BreaksJoin, RecordsJoin, StatesJoin, FirstBrokeIsFirst, AllRanAreTheRun, StartsOnTheRun, LeastBreakIsFirst, BreaksWithTheRun, RecordsOfTheRun, ComesToTheEnd};
 
 /// The laws below speak of every program that is opened so: of each whose image lies in memory, and so of each flat image
 /// that is accepted.
@@ -70,4 +70,10 @@ pub fn records_are_those_of_the_run()
 pub fn values_are_the_run()
     ensures broke { (rec : Recording) (opened : State) (tracers : Tracers) (places : List ℕ) → IsRecordingValue rec → IsOpened opened → IsCutting (end_place rec) places → FirstBrokeIsFirst rec opened tracers places }
     ensures ran { (rec : Recording) (opened : State) (tracers : Tracers) (places : List ℕ) → IsRecordingValue rec → IsOpened opened → IsCutting (end_place rec) places → AllRanAreTheRun rec opened tracers places }
+{}
+
+/// A run that does not break comes to the recorded end, with the count, the program counter and the registers that are
+/// recorded there.
+pub fn runs_end_as_recorded()
+    ensures { (rec : Recording) (opened : State) → IsRecordingValue rec → IsOpened opened → ComesToTheEnd rec opened }
 {}
