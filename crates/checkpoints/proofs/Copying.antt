@@ -32,7 +32,7 @@ not_empty m k some = ⊎_elim
     let both : is_some (get m k) ≡ false = ap is_some gone in absurd cc)
     (cases_lt 0 (len m))
 
-part_len : (n : ℕ) (part whole : Pages) → len part ≡ n → ((q : ℕ) → IsSome (get part q) → IsSome (get whole q)) → n ≤ len whole
+pub part_len : (n : ℕ) (part whole : Pages) → len part ≡ n → ((q : ℕ) → IsSome (get part q) → IsSome (get whole q)) → n ≤ len whole
 part_len zero part whole long sub = omega arith
 part_len (suc n) part whole long sub =
     let key = first_key part n long in

@@ -5,3 +5,5 @@ pub mod Filling
 pub mod Recording
 pub mod Copying
 pub mod Opened
+pub mod SmallMemory
+mod Rows

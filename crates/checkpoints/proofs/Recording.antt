@@ -26,3 +26,7 @@ pub item_is : (rec : Recording) (k : ℕ) (d : CheckpointData) → k < length (a
 item_is rec k d lt =
     let same : suc k - 1 ≡ k = omega arith in
     item_or_last rec rec.checkpoints k d (omega (arith, length-append rec.checkpoints (rec.last ∷ []))) ∙ ap (λ i. checkpoint_or_last rec (slice_get rec.checkpoints i)) (sym same)
+
+-- the list of what is equal to the items of another, and its last item
+pub same_push : (items copies pushed : List CheckpointData) (last copy : CheckpointData) → pushed ≡ copies ++ copy ∷ [] → copies ≡ items → copy ≡ last → pushed ≡ items ++ last ∷ []
+same_push items copies pushed last copy push same same_last = push ∙ ap (λ (cs : List CheckpointData). cs ++ copy ∷ []) same ∙ ap (λ (c : CheckpointData). items ++ c ∷ []) same_last

@@ -10,3 +10,6 @@ mod parts;
 mod restore;
 
 pub use kept::Checkpoints;
+
+#[cfg(test)]
+mod tests;

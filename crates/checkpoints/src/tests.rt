@@ -1,0 +1,379 @@
+//! Checkpoints of small recordings, with answers that were worked by hand.
+
+ghost use Rattle.std.specs.Prelude.{◌≡◌, ℕ, ◌≤◌, ◌⊎◌, IsSome, IfOk};
+ghost use Rattle.std.specs.FinMap.{get, len};
+ghost use Rattle.rv_machine.specs.Machine.{state_of};
+ghost use Rattle.checkpoints.specs.RecordedRun.{IsOpening};
+
+use crate::Checkpoints;
+use call_log::BreakKind;
+use page_frames::Frames;
+use rec_format::read_recording;
+use rv_machine::Machine;
+use sl_base::Memory;
+use sl_model::{Bus, Layout, RunState};
+use std::alloc::{AllocError, Global};
+use std::process::Abort;
+use std::test::Fail;
+
+/// A checkpoint, with the number and the byte of each listed page, every byte of it the same.
+#[derive(Clone, Copy)]
+struct Row<'a> {
+    count: u32,
+    a0: u32,
+    brk_end: u32,
+    pages: &'a [(u32, u8)],
+}
+
+/// Adds numbers of four bytes.
+fn words(out: &mut Vec<u8>, numbers: &[u32]) -> Result<(), AllocError> {
+    for n in numbers {
+        out.extend_from_slice(&n.to_le_bytes())?;
+    }
+    Ok(())
+}
+
+/// A length as a number of four bytes.
+fn count(len: usize) -> u32 {
+    u32::try_from(len).unwrap_or(u32::MAX)
+}
+
+/// Adds a checkpoint at 0x10004, with the next call 3.
+fn add(out: &mut Vec<u8>, row: &Row<'_>) -> Result<(), AllocError> {
+    words(out, &[row.count, 0, 0x10004, 0, 0x7fff_ffe0])?;
+    words(out, &[0; 7])?;
+    words(out, &[row.a0])?;
+    words(out, &[0; 21])?;
+    words(out, &[0x12000, row.brk_end, 3, count(row.pages.len())])?;
+    for (number, byte) in row.pages {
+        words(out, &[*number])?;
+        out.extend_from_slice(&[*byte; 4096])?;
+    }
+    Ok(())
+}
+
+/// The pages 16 and 20, the first with the bytes 1, 2, 3 at its start.
+fn memory(alloc: Global) -> Result<Frames, Memory>
+    ensures pages { IfOk result (λ f. (page : ℕ) → IsSome (get f.pages page) → (page ≡ 16) ⊎ (page ≡ 20)) }
+    ensures few { IfOk result (λ f. len f.pages ≤ 2) }
+{
+    let mut frames = Frames::new(alloc)?;
+    frames.map_page(16)?;
+    frames.map_page(20)?;
+    frames.store(0x10000, 4, 0x30201);
+    Ok(frames)
+}
+
+/// The opening state of a program with that memory, and room for a heap of two pages from page 18 on.
+fn opening(alloc: Global) -> Result<(Machine, Frames), Memory>
+    ensures { IfOk result (λ p. IsOpening (state_of p.0 p.1.pages)) }
+{
+    let frames = memory(alloc)?;
+    let mut x = [0; 32];
+    x[2] = 0x7fff_ffe0;
+    let machine = Machine {
+        pc: 0x10000,
+        x,
+        brk: 0x12000,
+        brk_end: 0x12000,
+        next_call: 0,
+        status: RunState::Running,
+        count: 0,
+        layout: Layout {
+            brk_start: 0x12000,
+            heap_limit: 0x14000,
+        },
+    };
+    Ok((machine, frames))
+}
+
+/// The checkpoints of a recording with these, of which the last is that of the end.
+fn kept(alloc: Global, rows: &[Row<'_>], last: &Row<'_>) -> Result<Checkpoints, Fail> {
+    let mut bytes = b"SLDGREC1".to_vec(alloc)?;
+    words(&mut bytes, &[0, 0x10000, 4, 0x73, 0, 0, count(rows.len())])?;
+    for row in rows {
+        add(&mut bytes, row)?;
+    }
+    words(&mut bytes, &[0, 5])?;
+    add(&mut bytes, last)?;
+    let rec = read_recording(alloc, &bytes)?;
+    let (machine, frames) = opening(alloc)?;
+    Ok(Checkpoints::new(alloc, &rec, &machine, &frames)?)
+}
+
+/// A checkpoint that changes only page 16.
+fn plain(count: u32, pages: &[(u32, u8)]) -> Row<'_> {
+    Row {
+        count,
+        a0: 5,
+        brk_end: 0x12000,
+        pages,
+    }
+}
+
+/// The state at a checkpoint that lists page 16 with nines.
+fn replayed(alloc: Global) -> Result<(Machine, Frames), Memory> {
+    let (mut machine, mut frames) = opening(alloc)?;
+    machine.pc = 0x10004;
+    machine.x[10] = 5;
+    machine.next_call = 3;
+    for i in 0..1024 {
+        frames.store(0x10000 + 4 * i, 4, 0x0909_0909);
+    }
+    Ok((machine, frames))
+}
+
+/// The break at checkpoint `index`, with these values.
+fn broke(index: u32, part: u32, at: u32, recorded: u32, replayed: u32) -> Option<BreakKind> {
+    Some(BreakKind::CheckpointDiffers {
+        index,
+        part,
+        at,
+        recorded,
+        replayed,
+    })
+}
+
+/// Compares a state with a checkpoint that is there.
+fn expect(
+    rt: &impl Abort,
+    checkpoints: &Checkpoints,
+    k: u32,
+    state: &(Machine, Frames),
+    found: Option<BreakKind>,
+) {
+    assert!(rt; k <= checkpoints.segments());
+    let told = checkpoints.differs(k, &state.0, &state.1);
+    assert!(rt; told == found);
+}
+
+/// The first byte of a page that a checkpoint records.
+fn expect_byte(rt: &impl Abort, checkpoints: &Checkpoints, k: u32, page: u32, first: u8) {
+    assert!(rt; k <= checkpoints.segments());
+    assert_eq!(rt; checkpoints.page_at(k, page)[0], first, "{k} {page}");
+}
+
+#[test]
+fn pages_as_they_are_listed(rt: HostRuntime) -> Result<(), Fail> {
+    let rows = [
+        plain(1, &[]),
+        plain(2, &[(17, 2)]),
+        plain(3, &[(16, 9)]),
+        plain(4, &[(17, 4)]),
+    ];
+    let checkpoints = kept(rt.alloc(), &rows, &plain(5, &[]))?;
+    assert_eq!(rt; checkpoints.segments(), 5);
+    for (k, page, first) in [
+        (0, 17, 0),
+        (1, 17, 0),
+        (2, 17, 2),
+        (3, 17, 2),
+        (4, 17, 4),
+        (5, 17, 4),
+        (0, 16, 1),
+        (2, 16, 1),
+        (3, 16, 9),
+        (5, 16, 9),
+        (5, 20, 0),
+        (5, 0xffff_ffff, 0),
+    ] {
+        expect_byte(&rt, &checkpoints, k, page, first);
+    }
+    Ok(())
+}
+
+/// Changes a part of a machine.
+fn change(machine: &mut Machine, part: u32, value: u32) {
+    match part {
+        0 => machine.pc = value,
+        1..=31 => machine.x[part as usize] = value,
+        32 => machine.brk = value,
+        33 => machine.brk_end = value,
+        _ => machine.next_call = value,
+    }
+}
+
+#[test]
+fn parts_that_differ(rt: HostRuntime) -> Result<(), Fail> {
+    let checkpoints = kept(rt.alloc(), &[plain(2, &[(16, 9)])], &plain(3, &[(16, 8)]))?;
+    let mut state = replayed(rt.alloc())?;
+    expect(&rt, &checkpoints, 1, &state, None);
+    expect(&rt, &checkpoints, 2, &state, broke(2, 35, 0x10000, 8, 9));
+    // From the last part to the first, so that a change is told before those that were made already.
+    for (part, recorded) in [
+        (34, 3),
+        (33, 0x12000),
+        (32, 0x12000),
+        (31, 0),
+        (10, 5),
+        (2, 0x7fff_ffe0),
+        (1, 0),
+        (0, 0x10004),
+    ] {
+        change(&mut state.0, part, 7);
+        expect(&rt, &checkpoints, 1, &state, broke(1, part, 0, recorded, 7));
+    }
+    Ok(())
+}
+
+#[test]
+fn pages_that_differ(rt: HostRuntime) -> Result<(), Fail> {
+    let lists = [
+        plain(2, &[(16, 9)]),
+        plain(3, &[(17, 4)]),
+        plain(4, &[(15, 1), (21, 1)]),
+    ];
+    let checkpoints = kept(rt.alloc(), &lists, &plain(5, &[(14, 1)]))?;
+    let mut state = replayed(rt.alloc())?;
+    for (address, value, differ) in [
+        // Page 17 is missing from 2 on, 15 from 3 on and 14 at the end.
+        (
+            0x10000,
+            9,
+            [
+                (0, 0, 0, 0),
+                (36, 0x11000, 1, 0),
+                (36, 0xf000, 1, 0),
+                (36, 0xe000, 1, 0),
+            ],
+        ),
+        // A byte of page 20, behind the missing ones.
+        (
+            0x14fff,
+            6,
+            [
+                (35, 0x14fff, 0, 6),
+                (36, 0x11000, 1, 0),
+                (36, 0xf000, 1, 0),
+                (36, 0xe000, 1, 0),
+            ],
+        ),
+        // A byte of page 16, before page 17.
+        (
+            0x10005,
+            7,
+            [
+                (35, 0x10005, 9, 7),
+                (35, 0x10005, 9, 7),
+                (36, 0xf000, 1, 0),
+                (36, 0xe000, 1, 0),
+            ],
+        ),
+        // A lower byte of that page.
+        (
+            0x10004,
+            8,
+            [
+                (35, 0x10004, 9, 8),
+                (35, 0x10004, 9, 8),
+                (36, 0xf000, 1, 0),
+                (36, 0xe000, 1, 0),
+            ],
+        ),
+    ] {
+        state.1.store(address, 1, value);
+        for (i, (part, at, recorded, replayed)) in differ.iter().enumerate() {
+            let k = i as u32 + 1;
+            let found = broke(k, *part, *at, *recorded, *replayed);
+            expect(
+                &rt,
+                &checkpoints,
+                k,
+                &state,
+                if *part == 0 { None } else { found },
+            );
+        }
+    }
+    Ok(())
+}
+
+/// The state at a checkpoint that is there, in the place of another one.
+fn state_at(
+    rt: &impl Abort,
+    alloc: Global,
+    checkpoints: &Checkpoints,
+    k: u32,
+) -> Result<(Machine, Frames), Fail> {
+    let (mut machine, mut frames) = replayed(alloc)?;
+    machine.status = RunState::Exited(1);
+    assert!(rt; k <= checkpoints.segments());
+    checkpoints.state_at(k, &mut machine, &mut frames)?;
+    Ok((machine, frames))
+}
+
+/// The mapped end of a machine, and the bytes at the start of some pages.
+fn expect_memory(
+    rt: &impl Abort,
+    state: &(Machine, Frames),
+    end: u32,
+    bytes: &[(u32, Option<u32>)],
+) {
+    assert_eq!(rt; state.0.brk_end, end);
+    assert_eq!(rt; state.1.dirty_len(), 0);
+    for (page, byte) in bytes {
+        assert!(rt; *page < 0x10_0000);
+        assert!(rt; state.1.load(*page * 4096, 1) == *byte);
+    }
+}
+
+#[test]
+fn memories_of_checkpoints(rt: HostRuntime) -> Result<(), Fail> {
+    for (brk_end, end, first, second) in [
+        (0x12000, 0x12000, None, None),
+        (0x13000, 0x13000, Some(6), None),
+        (0x13fff, 0x13000, Some(6), None),
+        (0x14000, 0x14000, Some(6), Some(0)),
+        (0x11fff, 0x12000, None, None),
+        (0, 0x12000, None, None),
+        (0x14001, 0x14000, Some(6), Some(0)),
+        (0xffff_ffff, 0x14000, Some(6), Some(0)),
+    ] {
+        let row = Row {
+            count: 9,
+            a0: 7,
+            brk_end,
+            pages: &[(17, 1), (18, 6)],
+        };
+        let checkpoints = kept(
+            rt.alloc(),
+            &[plain(2, &[(16, 9)]), row],
+            &plain(11, &[(16, 3)]),
+        )?;
+        let state = state_at(&rt, rt.alloc(), &checkpoints, 2)?;
+        let bytes = [
+            (16, Some(9)),
+            (17, None),
+            (18, first),
+            (19, second),
+            (20, Some(0)),
+        ];
+        expect_memory(&rt, &state, end, &bytes);
+    }
+    Ok(())
+}
+
+#[test]
+fn machines_of_checkpoints(rt: HostRuntime) -> Result<(), Fail> {
+    let checkpoints = kept(rt.alloc(), &[plain(2, &[(16, 9)])], &plain(3, &[(20, 3)]))?;
+    let (opened, _) = opening(rt.alloc())?;
+    let state = state_at(&rt, rt.alloc(), &checkpoints, 0)?;
+    assert!(rt; state.0 == opened);
+    expect_memory(
+        &rt,
+        &state,
+        0x12000,
+        &[(16, Some(1)), (20, Some(0)), (17, None)],
+    );
+    let state = state_at(&rt, rt.alloc(), &checkpoints, 2)?;
+    let (mut machine, _) = replayed(rt.alloc())?;
+    machine.count = 3;
+    assert!(rt; state.0 == machine);
+    expect_memory(
+        &rt,
+        &state,
+        0x12000,
+        &[(16, Some(9)), (20, Some(3)), (17, None)],
+    );
+    expect(&rt, &checkpoints, 2, &state, None);
+    Ok(())
+}
