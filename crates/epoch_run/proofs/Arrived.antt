@@ -88,7 +88,7 @@ run-add rec (suc n) m (suc all) s t sum arrives = followed rec s t n m all (onwa
 
 -- ---- the records
 
-records-suc : (rec : Recording) (tracers : Tracers) (b : ℕ) (s t : State) (n : ℕ) → onward rec s ≡ Goes t → epoch_records_from rec tracers b s (suc n) ≡ tracers s ++ epoch_records_from rec tracers b t n
+pub records-suc : (rec : Recording) (tracers : Tracers) (b : ℕ) (s t : State) (n : ℕ) → onward rec s ≡ Goes t → epoch_records_from rec tracers b s (suc n) ≡ tracers s ++ epoch_records_from rec tracers b t n
 unfolding epoch_records_from
 records-suc rec tracers b s t n goes = ap (λ on. tracers s ++ records_after (λ u. epoch_records_from rec tracers b u n) on) goes
 

@@ -13,3 +13,6 @@ mod OpeningFits
 mod Values
 mod RunEnd
 mod Rows
+mod Stretch
+mod SoFar
+mod OneSegment

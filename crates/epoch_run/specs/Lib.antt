@@ -2,3 +2,4 @@ pub mod Records
 pub mod Epochs
 pub mod Opened
 pub mod EpochLaws
+pub mod Segments

@@ -1,9 +1,15 @@
 //! What an epoch of a recorded run gives, and the records that tracers leave on it.
 #![tactic(auto)]
 
+mod comparing;
+mod firing;
 mod laws;
+mod places;
+mod running;
+mod segment;
 
 pub use laws::{
     epochs_join, epochs_start_on_the_run, least_break_is_first, one_epoch_is_the_run,
     programs_open_so, records_are_those_of_the_run, runs_fit, runs_end_as_recorded, values_are_the_run,
 };
+pub use running::run_between;

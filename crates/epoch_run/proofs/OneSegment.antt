@@ -1,0 +1,73 @@
+-- A segment that starts at the recorded state of its first checkpoint.
+use Rattle.std.proofs.Common.{◌≡◌, ℕ, ◌+◌, ◌-◌, ◌<◌, ◌≤◌, List, ◌++◌, Option, Some, None, refl, sym, ap, ◌∙◌, arith}
+use Rattle.sl_model.specs.Pages.{Pages}
+use Rattle.sl_model.specs.State.{State}
+use Rattle.call_log.specs.declared.breaks.Break.{Break}
+use Rattle.tracer_lang.specs.declared.record.Record.{Record}
+use Rattle.rec_format.specs.Rules.{IsRecordingValue}
+use Rattle.rec_format.specs.declared.recording.Recording.{Recording}
+use Rattle.replay.specs.Calls.{◌else_try◌}
+use Rattle.replay.specs.Run.{run_from}
+use Rattle.replay.specs.Breaks.{at_count, checkpoint_break}
+use Rattle.replay.specs.Recorded.{checkpoint_at, recorded_state, recorded_count}
+use Rattle.epoch_run.specs.Records.{Tracers}
+use Rattle.epoch_run.specs.Epochs.{end_place, epoch_size, epoch_break_from, epoch_break, epoch_records_from, epoch_records, closing_break, closing_records}
+use Rattle.epoch_run.specs.Opened.{IsOpened}
+use Rattle.epoch_run.specs.Segments.{IsUnderWay}
+use Rattle.epoch_run.proofs.Recorded.{count-recorded}
+use Rattle.epoch_run.proofs.Arrived.{run-zero}
+use Rattle.epoch_run.proofs.OneRun.{run_joins}
+use Rattle.epoch_run.proofs.SoFar.{counts_up}
+
+pub record IsSegment (rec : Recording) (opened : State) (j : ℕ) (s : State) (upto : ℕ) : Type 0 where
+  pub value : IsRecordingValue rec
+  pub opens : IsOpened opened
+  pub within : j < end_place rec
+  pub at : s ≡ recorded_state rec opened j
+  pub last : upto ≡ recorded_count rec (j + 1)
+
+module _ (rec : Recording) (opened : State) (j : ℕ) (s : State) (upto : ℕ) (is : IsSegment rec opened j s upto) where
+  start : s.count ≡ recorded_count rec j
+  start = ap (λ (t : State). t.count) is.at ∙ count-recorded rec opened j is.opens
+
+  total : upto - s.count ≡ epoch_size rec j (j + 1)
+  total = omega (arith, start, is.last)
+
+  pub starts_below : s.count ≤ upto
+  starts_below =
+      let up = counts_up rec j (j + 1) is.value (omega arith) (omega (arith, is.within)) in
+      omega (arith, start, is.last)
+
+  pub segment_steps : (old new : ℕ) → new + s.count ≤ old + upto → new ≤ old + epoch_size rec j (j + 1)
+  segment_steps old new steps = omega (arith, start, is.last)
+
+  break_is : epoch_break_from opened.pages rec j (j + 1) s (upto - s.count) ≡ epoch_break rec opened j (j + 1)
+  break_is =
+      ap (epoch_break_from opened.pages rec j (j + 1) s) total
+      ∙ ap (λ t. epoch_break_from opened.pages rec j (j + 1) t (epoch_size rec j (j + 1))) is.at
+
+  -- where it breaks before its end
+  pub segment_breaks : (broken : Break) → ((pages : Pages) (a b : ℕ) → a + 1 ≡ b → epoch_break_from pages rec a b s (upto - s.count) ≡ Some broken) → Some broken ≡ epoch_break rec opened j (j + 1)
+  segment_breaks broken breaks = sym (breaks opened.pages j (j + 1) refl) ∙ break_is
+
+  -- where it comes to its end
+  module _ (tracers : Tracers) (t : State) (old new : List Record) (way : IsUnderWay rec tracers s (upto - s.count) t 0 old new) where
+    pub segment_closes : at_count t (checkpoint_break opened.pages rec (j + 1) (checkpoint_at rec (j + 1)) t else_try closing_break rec (j + 1) t) ≡ epoch_break rec opened j (j + 1)
+    unfolding epoch_break_from
+    segment_closes = sym (way.breaks opened.pages j (j + 1) refl) ∙ break_is
+
+    pub segment_records : (all : List Record) → all ≡ new ++ closing_records rec tracers (j + 1) t → all ≡ old ++ epoch_records rec opened tracers j (j + 1)
+    unfolding epoch_records_from
+    segment_records all added =
+        added ∙ sym (way.records (j + 1))
+        ∙ ap (λ n. old ++ epoch_records_from rec tracers (j + 1) s n) total
+        ∙ ap (λ u. old ++ epoch_records_from rec tracers (j + 1) u (epoch_size rec j (j + 1))) is.at
+
+    pub segment_state : j + 1 < end_place rec → epoch_break rec opened j (j + 1) ≡ None → t ≡ recorded_state rec opened (j + 1)
+    segment_state inner none =
+        let came : run_from rec (recorded_state rec opened j) (epoch_size rec j (j + 1)) ≡ Some t =
+        sym (ap (run_from rec s) total ∙ ap (λ u. run_from rec u (epoch_size rec j (j + 1))) is.at) ∙ way.run ∙ run-zero rec t in
+        let due : run_from rec (recorded_state rec opened j) (epoch_size rec j (j + 1)) ≡ Some (recorded_state rec opened (j + 1)) =
+        run_joins rec opened j (j + 1) (end_place rec) is.value is.opens (record { below = omega arith; above = inner; within = omega arith }) none in
+        let same : Some t ≡ Some (recorded_state rec opened (j + 1)) = sym came ∙ due in
+        cc
