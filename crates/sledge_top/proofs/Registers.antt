@@ -4,7 +4,7 @@ use Rattle.std.specs.List.{join_with_byte}
 use Rattle.std.proofs.lemmas.Bool.{ne_eqb}
 use Rattle.std.proofs.lemmas.List.{take_more, length-take-le, append-nil}
 use Rattle.sledge_top.specs.Report.{register_text, register_texts}
-use Rattle.sledge_top.specs.Small.{is_nil}
+use Rattle.sledge_top.specs.Built.{is_nil}
 use Rattle.sledge_top.proofs.Joining.{join_push}
 
 -- a register's text, where it is not 0

@@ -7,7 +7,7 @@ use Rattle.sledge_top.specs.declared.status.Status.TheVariants as status
 use Rattle.rec_format.specs.declared.recording.Recording.{Recording}
 use Rattle.rec_format.specs.declared.fault.RecFault.{RecFault}
 use Rattle.rec_format.specs.Reading.{reading}
-use Rattle.sledge_top.specs.Small.{is_small}
+use Rattle.sledge_top.specs.Built.{is_built}
 use Rattle.sledge_top.specs.Words.{Order, TraceAt, read_words}
 use Rattle.sl_model.specs.State.{State}
 use Rattle.elf_image.specs.declared.image.Image.{Image}
@@ -42,12 +42,12 @@ file_of files name limit = within limit name (get files name)
 -- ---- the command that traces
 
 -- the recording that bytes spell, where it is one that is built
-abbrev pub small_of : Result Recording RecFault → Result Recording Status
-small_of (Ok rec) = if is_small rec then Ok rec else Err status.NotBuilt
-small_of (Err fault) = Err (status.RecordingBroken fault)
+abbrev pub built_of : Result Recording RecFault → Result Recording Status
+built_of (Ok rec) = if is_built rec then Ok rec else Err status.NotBuilt
+built_of (Err fault) = Err (status.RecordingBroken fault)
 
-abbrev pub small_recording : List ℕ → Result Recording Status
-small_recording bytes = small_of (reading bytes)
+abbrev pub recording_of : List ℕ → Result Recording Status
+recording_of bytes = built_of (reading bytes)
 
 -- the image of a program, where it is one
 abbrev pub image_of : Result Image ImageFault → Result Image Status
@@ -95,7 +95,7 @@ report_for rec address = do
 unfoldable pub text_of : Files → Order → Result (List ℕ) Status
 text_of files (TraceAt recording address epochs) = do
   bytes ← file_of files recording RECORDING_LIMIT
-  rec ← small_recording bytes
+  rec ← recording_of bytes
   report_for rec address
 
 -- the same from the words

@@ -1,9 +1,9 @@
 pub mod Status
+pub mod Pieces
 pub mod Words
 pub mod Orders
 pub mod Answer
 pub mod Report
-pub mod Small
-pub mod Replay
-pub mod Changed
-pub mod Pieces
+pub mod Built
+pub mod Epochs
+pub mod Endings

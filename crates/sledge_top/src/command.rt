@@ -5,17 +5,16 @@ ghost use Rattle.sl_base.specs.Faults.{Rose};
 ghost use Rattle.sl_base.specs.Written.{Adds, AddsPrefix};
 ghost use Rattle.sledge_top.specs.Status.{fault_line, IsRefusal, IsLaterRefusal};
 ghost use Rattle.sledge_top.specs.Words.{read_words};
-ghost use Rattle.sledge_top.specs.Orders.{order_of, texts};
+ghost use Rattle.sledge_top.specs.Orders.{order_of, texts, HasEpochs};
 ghost use Rattle.sledge_top.specs.Answer.{Gives, Ends, text, text_of, outcome};
 
 use crate::fault_line::write_fault;
 use crate::status::Status;
 use crate::store::file_of;
-use crate::trace::{small_recording, trace_at};
+use crate::trace::{recording_of, trace_at};
 use crate::words::{Order, read_words};
-use sl_base::{Brand, Gate, Sink, Store, World, write_all};
+use sl_base::{Gate, Sink, Store, World, write_all};
 use std::alloc::Global;
-use std::sync::ledger::Blank;
 use std::thread::Threads;
 
 /// The most bytes of a recording.
@@ -24,6 +23,7 @@ const RECORDING_LIMIT: u64 = 268_435_456;
 /// The text that a command writes to the first output, or how it is refused.
 #[tactic(auto, unfolding(crate::specs::Answer::text_of))]
 fn text_of<S: Store>(alloc: Global, order: Order<'_>, store: &mut S) -> Result<Vec<u8>, Status>
+    requires { HasEpochs order.entry }
     ensures text { IfSome (S.told store.old) (λ files. Gives (λ text. text.items) result (text_of files (order_of order.entry))) }
     ensures failed { IsErrOf result Status.StoreFault → Rose (S.faults store.old) (S.faults store.new) }
     ensures refusal { IfErr result IsLaterRefusal }
@@ -33,11 +33,11 @@ fn text_of<S: Store>(alloc: Global, order: Order<'_>, store: &mut S) -> Result<V
         Order::TraceAt {
             recording,
             address,
-            epochs: _,
+            epochs,
         } => {
             let bytes = file_of(alloc, store, recording, RECORDING_LIMIT)?;
-            let rec = small_recording(alloc, &bytes)?;
-            trace_at::<Brand>(alloc, &rec, address, Blank::new(1))
+            let rec = recording_of(alloc, &bytes)?;
+            trace_at(alloc, rec, address, epochs)
         }
     }
 }

@@ -2,12 +2,10 @@
 #![tactic(auto)]
 
 mod command;
-mod differ;
-mod ending;
 mod fault_line;
 mod opening;
-mod replaying;
 mod report;
+mod runs;
 mod status;
 mod store;
 mod trace;

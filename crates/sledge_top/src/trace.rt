@@ -1,48 +1,70 @@
 //! The command that traces.
 
-ghost use Rattle.std.specs.Prelude.{◌≡◌, ◌++◌, ◌≤◌, ◌<◌, ◌^◌, [], IfOk, IfErr, IsErrOf, OnOk, true, false, length, is_some, not, ◌||◌};
-ghost use Rattle.sl_model.specs.Pages.{Pages};
+ghost use Rattle.std.specs.Prelude.{◌≡◌, ◌++◌, ◌≤◌, ◌<◌, ◌∷◌, [], IfOk, IfErr, IfSome, IsErrOf, OnOk, true};
+ghost use Rattle.sl_model.specs.State.{State};
 ghost use Rattle.rv_machine.specs.Machine.{state_of};
 ghost use Rattle.rec_format.specs.Reading.{reading};
-ghost use Rattle.replay.specs.Breaks.{first_break_from};
-ghost use Rattle.epoch_run.specs.Records.{emit_at, at_end};
-ghost use Rattle.sledge_top.specs.Small.{is_small, is_nil};
-ghost use Rattle.sledge_top.specs.Report.{all_lines, report};
+ghost use Rattle.rec_format.specs.Rules.{IsRecordingValue};
+ghost use Rattle.checkpoints.specs.RecordedRun.{IsOpening};
+ghost use Rattle.epoch_run.specs.Opened.{IsOpened};
+ghost use Rattle.epoch_run.specs.EpochLaws.{IsAtEnd};
+ghost use Rattle.sledge_top.specs.Built.{is_built};
+ghost use Rattle.sledge_top.specs.Report.{all_lines, end_line, regs_line, report};
+ghost use Rattle.sledge_top.specs.Endings.{ending_of};
 ghost use Rattle.sledge_top.specs.Status.{IsLaterRefusal};
-ghost use Rattle.sledge_top.specs.Answer.{Gives, small_recording, small_of, opened, image_of, traced, report_for};
+ghost use Rattle.sledge_top.specs.Answer.{Gives, recording_of, built_of, opened, image_of, broken_by, traced, report_for};
 
-use crate::differ::{machine_differs, memory_differs};
-use crate::ending::ended_as;
 use crate::opening::load;
-use crate::replaying::{fire, run_to_end};
 use crate::report::{push_end_line, push_record_line, push_regs_line};
+use crate::runs::run_plan;
 use crate::status::Status;
-use call_log::End;
+use call_log::{Break, BreakKind, End};
+use checkpoints::Checkpoints;
 use elf_image::flat_image;
+use epoch_cut::cut;
+use epoch_run::{Plan, programs_open_so, runs_end_as_recorded, runs_fit};
 use page_frames::Frames;
 use rec_format::{Recording, read_recording};
 use rv_machine::Machine;
-use sl_base::{Refused, Steps};
+use sl_base::{Brand, Refused};
 use std::alloc::{AllocError, Global};
-use std::sync::ledger::{Blank, Ledger};
+use std::sync::ledger::Blank;
 use tracer_lang::Record;
 
 /// Whether a recording is one that is built.
-fn is_small(rec: &Recording) -> bool
-    ensures { result ≡ is_small rec.now }
+fn is_built(rec: &Recording) -> bool
+    ensures { result ≡ is_built rec.now }
 {
-    rec.kind == 0
-        && rec.args.is_empty()
-        && rec.calls.is_empty()
-        && rec.checkpoints.is_empty()
-        && rec.last.pages.is_empty()
+    rec.kind == 0 && rec.args.is_empty() && rec.calls.is_empty()
+}
+
+/// The recording that the bytes spell, where it is one that is built.
+pub fn recording_of(alloc: Global, bytes: &[u8]) -> Result<Recording, Status>
+    ensures value { Gives (λ rec. rec) result (recording_of bytes.now) }
+    ensures built { IfOk result (λ rec. is_built rec ≡ true) }
+    ensures rules { IfOk result IsRecordingValue }
+    ensures refusal { IfErr result IsLaterRefusal }
+    ensures no_store { IsErrOf result Status.StoreFault → ⊥ }
+{
+    match read_recording(alloc, bytes) {
+        Ok(rec) => {
+            if is_built(&rec) {
+                Ok(rec)
+            } else {
+                Err(Status::NotBuilt)
+            }
+        }
+        Err(Refused::Fault(fault)) => Err(Status::RecordingBroken(fault)),
+        Err(Refused::Memory) => Err(Status::Memory),
+    }
 }
 
 /// The opening state of a recording that is built.
-pub fn open(alloc: Global, rec: &Recording) -> Result<(Machine, Frames), Status>
+fn open(alloc: Global, rec: &Recording) -> Result<(Machine, Frames), Status>
     requires args { rec.now.args ≡ [] }
     ensures state { Gives (λ p. state_of p.0 p.1.pages) result (opened rec.now) }
-    ensures count { IfOk result (λ p. p.0.count ≡ 0) }
+    ensures opening { IfOk result (λ p. IsOpening (state_of p.0 p.1.pages)) }
+    ensures opened { IfOk result (λ p. IsOpened (state_of p.0 p.1.pages)) }
     ensures refusal { IfErr result IsLaterRefusal }
     ensures no_store { IsErrOf result Status.StoreFault → ⊥ }
 {
@@ -52,27 +74,24 @@ pub fn open(alloc: Global, rec: &Recording) -> Result<(Machine, Frames), Status>
         Err(Refused::Fault(_)) => return Err(Status::NotBuilt),
         Err(Refused::Memory) => return Err(Status::Memory),
     }
+    programs_open_so();
+    runs_fit();
     Ok(load(alloc, rec.load_addr, bytes)?)
 }
 
-/// The recording that the bytes spell, where it is one that is built.
-pub fn small_recording(alloc: Global, bytes: &[u8]) -> Result<Recording, Status>
-    ensures value { Gives (λ rec. rec) result (small_recording bytes.now) }
-    ensures small { IfOk result (λ rec. is_small rec ≡ true) }
-    ensures count { IfOk result (λ rec. rec.last.count ≤ 2 ^ 40) }
-    ensures refusal { IfErr result IsLaterRefusal }
-    ensures no_store { IsErrOf result Status.StoreFault → ⊥ }
+/// How a command ends where the replay first differs from its recording.
+fn broken_by(first: Break) -> Status
+    ensures ending { result ≡ broken_by first first.kind }
+    ensures refusal { IsLaterRefusal result }
+    ensures no_store { result ≡ Status.StoreFault → ⊥ }
 {
-    match read_recording(alloc, bytes) {
-        Ok(rec) => {
-            if is_small(&rec) {
-                Ok(rec)
-            } else {
-                Err(Status::NotBuilt)
-            }
-        }
-        Err(Refused::Fault(_)) => Err(Status::NotBuilt),
-        Err(Refused::Memory) => Err(Status::Memory),
+    match first.kind {
+        BreakKind::CheckpointDiffers { .. } => Status::CheckpointDiffers(first),
+        BreakKind::NoCall { .. }
+        | BreakKind::CallDiffers { .. }
+        | BreakKind::EarlyEnd { .. }
+        | BreakKind::EndDiffers { .. }
+        | BreakKind::CallsLeft { .. } => Status::ReplayBroken(first),
     }
 }
 
@@ -86,108 +105,80 @@ fn push_all_lines(alloc: Global, out: &mut Vec<u8>, records: &[Record]) -> Resul
     Ok(())
 }
 
-/// The report with the analysis `all`, at the last state.
-pub fn report_of(
-    alloc: Global,
-    rec: &Recording,
-    records: &[Record],
-    m: &Machine,
-) -> Result<Vec<u8>, AllocError>
-    ensures { IfOk result (λ text. (pages : Pages) → text.items ≡ report (all_lines 1 records.now) rec.now.end (state_of m.now pages)) }
+/// What a report says of the recorded end.
+struct Ending {
+    end: End,
+    count: u64,
+    pc: u32,
+    x: [u32; 32],
+}
+
+/// The recorded end.
+fn ending_of(rec: &Recording) -> Ending
+    ensures { result ≡ ending_of rec.now }
+{
+    let mut x = [0; 32];
+    x[1..].copy_from_slice(&rec.last.x);
+    Ending {
+        end: rec.end,
+        count: rec.last.count,
+        pc: rec.last.pc,
+        x,
+    }
+}
+
+/// The report with the analysis `all`, at the recorded end.
+fn report_of(alloc: Global, ending: &Ending, records: &[Record]) -> Result<Vec<u8>, AllocError>
+    ensures { IfOk result (λ text. text.items ≡ all_lines 1 records.now ++ (end_line ending.now.end ending.now.count ending.now.pc ++ regs_line ending.now.x)) }
 {
     let mut out = Vec::new(alloc);
     push_all_lines(alloc, &mut out, records)?;
-    push_end_line(&mut out, &rec.end, m.count, m.pc)?;
-    push_regs_line(alloc, &mut out, &m.x)?;
+    push_end_line(&mut out, &ending.end, ending.count, ending.pc)?;
+    push_regs_line(alloc, &mut out, &ending.x)?;
     Ok(out)
 }
 
-/// Records what tracers leave at the recorded end, where they fire only before an instruction that traps.
-fn fire_at_end(
-    alloc: Global,
-    end: &End,
-    address: u32,
-    m: &Machine,
-    records: &mut Vec<Record>,
-) -> Result<(), AllocError>
-    ensures { (pages : Pages) → OnOk result (records.new.items ≡ records.old.items ++ at_end (emit_at address 10) end.now (state_of m.now pages)) }
-{
-    match end {
-        End::Trapped(_) => fire(alloc, address, m, records),
-        End::Exited(_) | End::Stopped => Ok(()),
-    }
-}
-
-/// Whether a replay that came to the recorded end is there in another state than the recorded one, or ends otherwise.
-fn breaks_at_end<L: Ledger>(
-    rec: &Recording,
-    opened: &Frames,
-    m: &mut Machine,
-    frames: &mut Frames,
-    steps: &mut Steps<L>,
-) -> bool
-    requires small { is_small rec.now ≡ true }
-    requires count { m.old.count < 2 ^ 62 }
-    ensures differs { result ≡ is_some (first_break_from opened.now.pages rec.now (state_of m.old frames.old.pages) 0) }
-    ensures same { result ≡ false → m.new ≡ m.old }
-{
-    if machine_differs(&rec.last, m) {
-        return true;
-    }
-    if memory_differs(opened, frames) {
-        return true;
-    }
-    !ended_as(&rec.end, m, frames, steps)
-}
-
-/// The report of a recording that is replayed from its opening state.
-fn report_from<L: Ledger>(
-    alloc: Global,
-    rec: &Recording,
-    address: u32,
-    opened: &Frames,
-    m: &mut Machine,
-    frames: &mut Frames,
-    steps: &mut Steps<L>,
-) -> Result<Vec<u8>, Status>
-    requires small { is_small rec.now ≡ true }
-    requires length { rec.now.last.count ≤ 2 ^ 40 }
-    requires start { m.old.count ≡ 0 }
-    requires opened { opened.now.pages ≡ frames.old.pages }
-    ensures text { Gives (λ text. text.items) result (traced rec.now address (state_of m.old frames.old.pages)) }
+/// The report of a plan, with register a0 recorded wherever pc is at its address.
+fn report_of_plan(alloc: Global, plan: Plan) -> Result<Vec<u8>, Status>
+    ensures text { Gives (λ text. text.items) result (traced plan.rec plan.address plan.checkpoints.opened) }
     ensures refusal { IfErr result IsLaterRefusal }
     ensures no_store { IsErrOf result Status.StoreFault → ⊥ }
 {
-    let mut records = Vec::new(alloc);
-    if !run_to_end(alloc, rec, address, m, frames, &mut records, steps)? {
-        return Err(Status::NotBuilt);
+    runs_end_as_recorded();
+    let ending = ending_of(&plan.rec);
+    match run_plan::<Brand>(alloc, plan, Blank::new(1)) {
+        Ok(records) => Ok(report_of(alloc, &ending, records.as_slice())?),
+        Err(Refused::Fault(first)) => Err(broken_by(first)),
+        Err(Refused::Memory) => Err(Status::Memory),
     }
-    fire_at_end(alloc, &rec.end, address, m, &mut records)?;
-    if breaks_at_end(rec, opened, m, frames, steps) {
-        return Err(Status::NotBuilt);
-    }
-    Ok(report_of(alloc, rec, &records, m)?)
 }
 
-/// The report of a recording that is built, with register a0 recorded wherever pc is at the address. Its steps are
-/// counted on a ledger of their own.
-pub fn trace_at<L: Ledger>(
+/// The report of a recording that is built, with register a0 recorded wherever pc is at the address. It is replayed in
+/// at most so many epochs, or in one for each segment between checkpoints.
+pub fn trace_at(
     alloc: Global,
-    rec: &Recording,
+    rec: Recording,
     address: u32,
-    blank: Blank,
+    epochs: Option<u32>,
 ) -> Result<Vec<u8>, Status>
-    requires name { blank.name ≡ L.name }
-    requires parts { blank.parts ≡ L.parts }
-    requires some_parts { 0 < blank.parts }
-    requires small { is_small rec.now ≡ true }
-    requires length { rec.now.last.count ≤ 2 ^ 40 }
-    ensures text { Gives (λ text. text.items) result (report_for rec.now address) }
+    requires built { is_built rec ≡ true }
+    requires rules { IsRecordingValue rec }
+    requires epochs { IfSome epochs (λ n. (1 ≤ n) × (n ≤ 4096)) }
+    ensures text { Gives (λ text. text.items) result (report_for rec address) }
     ensures refusal { IfErr result IsLaterRefusal }
     ensures no_store { IsErrOf result Status.StoreFault → ⊥ }
 {
-    let (_, opened) = open(alloc, rec)?;
-    let (mut m, mut frames) = open(alloc, rec)?;
-    let mut steps = Steps::<L>::new(blank);
-    report_from(alloc, rec, address, &opened, &mut m, &mut frames, &mut steps)
+    let (m, opening) = open(alloc, &rec)?;
+    let checkpoints = Checkpoints::new(alloc, &rec, &m, &opening)?;
+    let segments = checkpoints.segments();
+    let cutting = cut(alloc, segments, epochs.unwrap_or(segments))?;
+    report_of_plan(
+        alloc,
+        Plan {
+            rec,
+            checkpoints,
+            cutting,
+            address,
+        },
+    )
 }

@@ -3,7 +3,7 @@
 ghost use Rattle.std.specs.Prelude.{◌≡◌, ◌≤◌, [], ◌∷◌, IfSome, map, string_bytes};
 ghost use Rattle.std.specs.Option.{option_map};
 ghost use Rattle.sledge_top.specs.Words.{read_trace_at, read_cut, hex_from, hex_number, hex_value, hex_digits, decimal_from, decimal_number, epochs_value, is_epochs, has_epochs, is_plain, read_with_value, read_with_option, read_words};
-ghost use Rattle.sledge_top.specs.Orders.{order_of};
+ghost use Rattle.sledge_top.specs.Orders.{order_of, HasEpochs};
 
 /// A command, as its words name it.
 #[derive(Clone, Copy, Debug)]
@@ -84,7 +84,9 @@ fn read_trace_at<'a>(
     hex: &str,
     epochs: Option<u32>,
 ) -> Option<Order<'a>>
-    ensures { option_map order_of result ≡ read_trace_at command.now recording.now at.now hex.now epochs }
+    requires { IfSome epochs (λ n. (1 ≤ n) × (n ≤ 4096)) }
+    ensures order { option_map order_of result ≡ read_trace_at command.now recording.now at.now hex.now epochs }
+    ensures range { IfSome result HasEpochs }
 {
     if command != "trace" || !is_plain(recording) || at != "at" {
         return None;
@@ -105,7 +107,8 @@ fn read_cut<'a>(
     hex: &str,
     value: &[u8],
 ) -> Option<Order<'a>>
-    ensures { option_map order_of result ≡ read_cut command.now recording.now at.now hex.now value.now }
+    ensures order { option_map order_of result ≡ read_cut command.now recording.now at.now hex.now value.now }
+    ensures range { IfSome result HasEpochs }
 {
     let epochs = epochs_value(value)?;
     read_trace_at(command, recording, at, hex, Some(epochs))
@@ -127,7 +130,8 @@ fn is_epochs(word: &str) -> bool
 
 /// Six words, of which one is the option and the next its value.
 fn read_with_value(words: &[String]) -> Option<Order<'_>>
-    ensures { option_map order_of result ≡ read_with_value (map string_bytes words.now) }
+    ensures order { option_map order_of result ≡ read_with_value (map string_bytes words.now) }
+    ensures range { IfSome result HasEpochs }
 {
     match words {
         [command, a, b, c, d, e] => {
@@ -150,7 +154,8 @@ fn read_with_value(words: &[String]) -> Option<Order<'_>>
 
 /// Five words, of which one is the option with its value, or six words.
 fn read_with_option(words: &[String]) -> Option<Order<'_>>
-    ensures { option_map order_of result ≡ read_with_option (map string_bytes words.now) }
+    ensures order { option_map order_of result ≡ read_with_option (map string_bytes words.now) }
+    ensures range { IfSome result HasEpochs }
 {
     match words {
         [command, a, b, c, d] => read_five(
@@ -172,7 +177,8 @@ fn read_five<'a>(
     c: &'a str,
     d: &'a str,
 ) -> Option<Order<'a>>
-    ensures { option_map order_of result ≡ read_with_option (command.now ∷ a.now ∷ b.now ∷ c.now ∷ d.now ∷ []) }
+    ensures order { option_map order_of result ≡ read_with_option (command.now ∷ a.now ∷ b.now ∷ c.now ∷ d.now ∷ []) }
+    ensures range { IfSome result HasEpochs }
 {
     if has_epochs(a) {
         read_cut(command, b, c, d, &a.as_bytes()[9..])
@@ -189,7 +195,8 @@ fn read_five<'a>(
 
 /// The command that the words name; `None` exactly where they name none.
 pub fn read_words(words: &[String]) -> Option<Order<'_>>
-    ensures { option_map order_of result ≡ read_words (map string_bytes words.now) }
+    ensures order { option_map order_of result ≡ read_words (map string_bytes words.now) }
+    ensures range { IfSome result HasEpochs }
 {
     match words {
         [command, recording, at, hex] => read_trace_at(

@@ -6,7 +6,6 @@ abbrev pub is_nil : {X : Type 0} → List X → Bool
 is_nil [] = true
 is_nil (x ∷ xs) = false
 
--- A small recording has a flat image, no arguments, no calls and no checkpoints before the end, and its end lists no
--- page.
-abbrev pub is_small : Recording → Bool
-is_small rec = rec.kind == 0 && (is_nil rec.args && (is_nil rec.calls && (is_nil rec.checkpoints && is_nil rec.last.pages)))
+-- a recording that has a flat image, no arguments and no recorded calls
+abbrev pub is_built : Recording → Bool
+is_built rec = rec.kind == 0 && (is_nil rec.args && is_nil rec.calls)
