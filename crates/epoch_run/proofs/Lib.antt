@@ -16,3 +16,4 @@ mod Rows
 mod Stretch
 mod SoFar
 mod OneSegment
+pub mod Planned

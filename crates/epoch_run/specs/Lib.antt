@@ -3,3 +3,5 @@ pub mod Epochs
 pub mod Opened
 pub mod EpochLaws
 pub mod Segments
+pub mod Plans
+pub mod OneProof

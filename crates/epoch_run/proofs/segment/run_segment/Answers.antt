@@ -1,7 +1,7 @@
 use Rattle.std.proofs.Common.{sym, ap, ◌∙◌}
 use Rattle.rv_machine.specs.Machine.{state_of}
 use Rattle.epoch_run.specs.Records.{emit_at}
-use Rattle.epoch_run.proofs.OneSegment.{IsSegment, starts_below, segment_steps, segment_breaks, segment_closes, segment_records, segment_state}
+use Rattle.epoch_run.proofs.OneSegment.{starts_below, segment_steps, segment_breaks, segment_closes, segment_records, segment_state}
 use Rattle.epoch_run.proofs.segment.run_segment.Goals as goal
 
 pub run_to-requires-clause-from : goal.run_to-requires-clause-from

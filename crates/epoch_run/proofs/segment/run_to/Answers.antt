@@ -1,4 +1,4 @@
-use Rattle.std.proofs.Common.{◌≡◌, ◌+◌, Some, ap, ◌∙◌, arith}
+use Rattle.std.proofs.Common.{Some, ap, ◌∙◌, arith}
 use Rattle.epoch_run.specs.Records.{emit_at}
 use Rattle.epoch_run.proofs.Stretch.{goes_on_at, breaks_off}
 use Rattle.epoch_run.proofs.segment.run_to.Goals as goal

@@ -1,0 +1,67 @@
+-- The epochs of a cutting, as a plan has them.
+use Rattle.std.specs.Prelude.{slice_index}
+use Rattle.std.specs.List.{slice_get}
+use Rattle.std.proofs.Common.{◌≡◌, ℕ, zero, suc, ◌+◌, ◌-◌, ◌<◌, ◌≤◌, ⊎_elim, List, length, Some, ap, ◌∙◌, zero-add, arith}
+use Rattle.std.proofs.lemmas.Bool.{cases_eq}
+use Rattle.std.proofs.lemmas.List.FromFn.{length-map-range_with_len, get_or-map-range_with_len}
+use Rattle.std.proofs.lemmas.Option.{slice_get-get_or}
+use Rattle.sl_model.specs.State.{State}
+use Rattle.rec_format.specs.Rules.{IsRecordingValue}
+use Rattle.rec_format.specs.declared.recording.Recording.{Recording}
+use Rattle.epoch_core.specs.declared.post.PostValue.TheVariants as post
+use Rattle.epoch_cut.specs.Places.{IsCutting}
+use Rattle.epoch_run.specs.Records.{Tracers}
+use Rattle.epoch_run.specs.Epochs.{end_place}
+use Rattle.epoch_run.specs.EpochLaws.{epochs_of}
+use Rattle.epoch_run.specs.Plans.{value_at, values_of}
+use Rattle.epoch_run.proofs.OneRun.{are}
+
+-- ---- where an epoch stands
+
+pub record AreEnds (rec : Recording) (places : List ℕ) (k : ℕ) : Type 0 where
+  pub below : slice_index places k < slice_index places (k + 1)
+  pub within : slice_index places (k + 1) ≤ end_place rec
+
+pub ends : (rec : Recording) (places : List ℕ) (k : ℕ) → IsCutting (end_place rec) places → k < epochs_of places → AreEnds rec places k
+ends rec places k cut within =
+    let places_are = are rec places cut in
+    record {
+      below = places_are.rising k (k + 1) (omega arith) (omega arith);
+      within = ⊎_elim
+          (λ (same : k + 1 ≡ length places - 1).
+          let last : slice_index places (k + 1) ≡ end_place rec = ap (slice_index places) same ∙ places_are.last in
+          omega arith)
+          (λ (apart : k + 1 ≡ length places - 1 → ⊥).
+          let before = places_are.rising (k + 1) (length places - 1) (omega arith) (omega arith) in
+          omega (arith, places_are.last))
+          (cases_eq (k + 1) (length places - 1));
+    }
+
+-- places rise by one at least, so there are no more epochs than segments
+place_from : (rec : Recording) (places : List ℕ) (k : ℕ) → IsCutting (end_place rec) places → k < length places → k ≤ slice_index places k
+place_from rec places zero cut within = omega arith
+place_from rec places (suc k) cut within =
+    let before = place_from rec places k cut (omega arith) in
+    let places_are = are rec places cut in
+    let rises = places_are.rising k (suc k) (omega arith) within in
+    omega arith
+
+pub few_epochs : (rec : Recording) (places : List ℕ) → IsRecordingValue rec → IsCutting (end_place rec) places → epochs_of places ≤ 4096
+few_epochs rec places is cut =
+    let places_are = are rec places cut in
+    let some = places_are.some in
+    let last = place_from rec places (length places - 1) cut (omega arith) in
+    let few = is.number_of_checkpoints in
+    omega (arith, places_are.last)
+
+-- ---- their values
+
+pub length-values : (rec : Recording) (opened : State) (tracers : Tracers) (places : List ℕ) → length (values_of rec opened tracers places) ≡ epochs_of places
+length-values rec opened tracers places = length-map-range_with_len (value_at rec opened tracers places) 0 (epochs_of places)
+
+pub slice_get-values : (rec : Recording) (opened : State) (tracers : Tracers) (places : List ℕ) (k : ℕ) → k < epochs_of places → slice_get (values_of rec opened tracers places) k ≡ Some (value_at rec opened tracers places k)
+slice_get-values rec opened tracers places k within =
+    let values = value_at rec opened tracers places in
+    let none = post.Skipped 0 in
+    slice_get-get_or (values_of rec opened tracers places) k none (omega (arith, length-values rec opened tracers places))
+    ∙ ap Some (get_or-map-range_with_len values 0 (epochs_of places) k k none within (zero-add k))

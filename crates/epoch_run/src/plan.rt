@@ -1,0 +1,77 @@
+//! What epochs are run of, and what runs them.
+
+ghost use Rattle.std.specs.Prelude.{◌≡◌, ◌≤◌, [], length, IfOk};
+ghost use Rattle.std.specs.FinMap.{empty};
+ghost use Rattle.rec_format.specs.Rules.{IsRecordingValue};
+ghost use Rattle.checkpoints.specs.RecordedRun.{IsOf};
+ghost use Rattle.epoch_cut.specs.Places.{IsCutting};
+ghost use Rattle.epoch_run.specs.Epochs.{end_place};
+ghost use Rattle.epoch_run.specs.EpochLaws.{epochs_of};
+ghost use Rattle.epoch_run.specs.Opened.{IsOpened};
+ghost use Rattle.epoch_run.specs.OneProof.{IsRecordingValue-prop, IsOpened-prop};
+
+use checkpoints::Checkpoints;
+use epoch_cut::Cutting;
+use page_frames::Frames;
+use rec_format::Recording;
+use rv_machine::Machine;
+use sl_base::Memory;
+use sl_model::{Layout, RunState};
+use std::alloc::Global;
+
+/// A recording without recorded calls with its checkpoints, cut into epochs.
+#[derive(Drop)]
+pub struct Plan {
+    pub rec: Recording,
+    /// The checkpoints of the recording and its opening state.
+    pub checkpoints: Checkpoints,
+    /// The places where its segments are cut.
+    pub cutting: Cutting,
+    /// Where the tracer records register a0.
+    pub address: u32,
+    ghost is_value: { IsRecordingValue rec } by { IsRecordingValue-prop rec },
+    ghost no_calls: { rec.calls ≡ [] },
+    ghost are_of: { IsOf rec checkpoints },
+    ghost opens: { IsOpened checkpoints.opened } by { IsOpened-prop checkpoints.opened },
+    ghost cuts: { IsCutting (end_place rec) cutting },
+}
+
+impl Plan {
+    /// How many epochs it has, at least one.
+    pub fn epochs(&self) -> u32
+        ensures { result ≡ epochs_of self.now.cutting }
+    {
+        (self.cutting.places().len() - 1) as u32
+    }
+}
+
+/// The machine and the memory of one worker, which runs one epoch after the other.
+#[derive(Drop)]
+pub struct Worker {
+    pub m: Machine,
+    pub f: Frames,
+}
+
+impl Worker {
+    /// A worker that has run nothing yet. No memory is mapped.
+    pub fn new(alloc: Global) -> Result<Worker, Memory>
+        ensures pages { IfOk result (λ worker. worker.f.pages ≡ empty) }
+        ensures count { IfOk result (λ worker. worker.m.count ≡ 0) }
+    {
+        let m = Machine {
+            pc: 0,
+            x: [0; 32],
+            brk: 0,
+            brk_end: 0,
+            next_call: 0,
+            status: RunState::Running,
+            count: 0,
+            layout: Layout {
+                brk_start: 0,
+                heap_limit: 0,
+            },
+        };
+        let f = Frames::new(alloc)?;
+        Ok(Worker { m, f })
+    }
+}
