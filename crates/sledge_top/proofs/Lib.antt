@@ -5,5 +5,5 @@ mod Fields
 pub mod Mapping
 mod Flats
 mod WordCounts
-mod Runs
+mod WholeRun
 mod Turns

@@ -1,7 +1,7 @@
 -- One worker that claims and runs all epochs, one after the other.
 use Rattle.std.specs.Prelude.{slice_get, slice_index_or, nat_lt, nat_le, if◌then◌else◌}
 use Rattle.std.specs.Option.{option_map_or}
-use Rattle.std.proofs.Common.{◌≡◌, ℕ, zero, suc, ◌+◌, ◌<◌, ◌≤◌, Bool, true, false, List, [], ◌∷◌, ◌++◌, length, Option, Some, None, All, refl, sym, ap, subst, ◌∙◌, arith}
+use Rattle.std.proofs.Common.{◌≡◌, ℕ, zero, suc, ◌+◌, ◌<◌, ◌≤◌, Bool, true, false, List, [], ◌∷◌, ◌++◌, length, Option, Some, None, All, refl, sym, ap, subst, ◌∙◌, append_assoc, arith}
 use Rattle.std.proofs.lemmas.Bool.Decides.{nat_tests}
 use Rattle.std.proofs.lemmas.Option.{slice_get-get_or}
 use Rattle.epoch_core.specs.declared.event.CoreEvent.{CoreEvent}
@@ -15,7 +15,7 @@ use Rattle.epoch_core.specs.Schedule.{CoreState, start, claim, finish, finished,
 use Rattle.sledge_top.specs.Epochs.{turns, one_after_the_other}
 
 -- one more turn
-pub turns_more : (n : ℕ) → turns (n + 1) ≡ turns n ++ Claim 0 ∷ Finish 0 ∷ []
+pub turns_more : (n : ℕ) → turns (suc n) ≡ turns n ++ Claim 0 ∷ Finish 0 ∷ []
 turns_more zero = refl
 turns_more (suc n) = ap (λ (events : List CoreEvent). Claim 0 ∷ Finish 0 ∷ events) (turns_more n)
 
@@ -87,4 +87,11 @@ runs_on values (suc n) k low tray long =
     subst (IsDone (length values)) (sym goes) (runs_on values n (k + 1) (low_after low k value) (tray ++ post_of k value ∷ []) (omega (arith, long)))
 
 pub one_does_all : (values : List PostValue) (epochs : ℕ) → length values ≡ epochs → IsDone epochs (run_events values (start 1) (one_after_the_other epochs))
-one_does_all values epochs long = subst (λ (n : ℕ). IsDone n (run_events values (start 1) (one_after_the_other n))) long (runs_on values (length values) 0 None [] refl)
+one_does_all values epochs long = subst (λ (n : ℕ). IsDone n (run_events values (start 1) (one_after_the_other n))) long (runs_on values (length values) 0 None [] (omega arith))
+
+-- two events more
+pub turns_pushed : (n : ℕ) (before between after : List CoreEvent) → before ≡ turns n → between ≡ before ++ Claim 0 ∷ [] → after ≡ between ++ Finish 0 ∷ [] → after ≡ turns (n + 1)
+turns_pushed n before between after is one two =
+    let next : suc n ≡ n + 1 = omega arith in
+    two ∙ ap (λ (t : List CoreEvent). t ++ Finish 0 ∷ []) one ∙ append_assoc before (Claim 0 ∷ []) (Finish 0 ∷ []) ∙ ap (λ (t : List CoreEvent). t ++ Claim 0 ∷ Finish 0 ∷ []) is
+    ∙ sym (turns_more n) ∙ ap turns next

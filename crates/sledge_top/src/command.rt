@@ -23,7 +23,7 @@ const RECORDING_LIMIT: u64 = 268_435_456;
 /// The text that a command writes to the first output, or how it is refused.
 #[tactic(auto, unfolding(crate::specs::Answer::text_of))]
 fn text_of<S: Store>(alloc: Global, order: Order<'_>, store: &mut S) -> Result<Vec<u8>, Status>
-    requires { HasEpochs order.entry }
+    requires { HasEpochs order }
     ensures text { IfSome (S.told store.old) (λ files. Gives (λ text. text.items) result (text_of files (order_of order.entry))) }
     ensures failed { IsErrOf result Status.StoreFault → Rose (S.faults store.old) (S.faults store.new) }
     ensures refusal { IfErr result IsLaterRefusal }

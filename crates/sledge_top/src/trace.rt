@@ -106,6 +106,7 @@ fn push_all_lines(alloc: Global, out: &mut Vec<u8>, records: &[Record]) -> Resul
 }
 
 /// What a report says of the recorded end.
+#[derive(Drop)]
 struct Ending {
     end: End,
     count: u64,

@@ -1,7 +1,7 @@
 use Rattle.std.proofs.Common.{◌≡◌, ◌++◌, take}
 use Rattle.std.specs.List.{join_with_byte}
 use Rattle.sledge_top.specs.Report.{register_texts}
-use Rattle.sledge_top.specs.Small.{is_nil}
+use Rattle.sledge_top.specs.Built.{is_nil}
 use Rattle.sledge_top.proofs.report.push_registers.Given as goal
 
 abbrev pub invariant-loop-number : goal.invariant-loop-number

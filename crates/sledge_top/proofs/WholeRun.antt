@@ -31,7 +31,8 @@ value_is rec opened tracers places k break is = ap (λ b. posted (value_of (reco
 got : (rec : Recording) (opened : State) (tracers : Tracers) (places : List ℕ) (k : ℕ) → k < epochs_of places → slice_get (values_of rec opened tracers places) k ≡ Some (value_at rec opened tracers places k)
 got rec opened tracers places k lt =
     let numbers = range_with_len 0 (epochs_of places) in
-    let number : slice_get numbers k ≡ Some k = slice_get-get_or numbers k 0 (omega (arith, length-range_with_len 0 (epochs_of places))) ∙ ap Some (get_or-range_with_len 0 (epochs_of places) k 0 lt) in
+    let at_zero : 0 + k ≡ k = omega arith in
+    let number : slice_get numbers k ≡ Some k = slice_get-get_or numbers k 0 (omega (arith, length-range_with_len 0 (epochs_of places))) ∙ ap Some (get_or-range_with_len 0 (epochs_of places) k 0 lt ∙ at_zero) in
     slice_get-map (value_at rec opened tracers places) numbers k ∙ ap (option_map (value_at rec opened tracers places)) number
 
 got_ran : (rec : Recording) (opened : State) (tracers : Tracers) (places : List ℕ) (k : ℕ) → k < epochs_of places → break_of rec opened places k ≡ None → (first : Break) → slice_get (values_of rec opened tracers places) k ≢ Some (post.Broke first)
@@ -82,10 +83,10 @@ all_left rec opened tracers places (suc n) a none =
 -- ---- the whole
 
 abbrev pub MergesBroken : Type 0
-MergesBroken = (values : List PostValue) (k : ℕ) (first : Break) → BreaksFirstAt values k first → merged values ≡ Err first
+MergesBroken = (values : List PostValue) (first : Break) → (merged values ≡ Err first) ↔ ((k : ℕ) × BreaksFirstAt values k first)
 
 abbrev pub MergesRun : Type 0
-MergesRun = (values : List PostValue) → NoneBroke values → merged values ≡ Ok (flat_map records_in values)
+MergesRun = (values : List PostValue) (left : List Record) → (merged values ≡ Ok left) ↔ (NoneBroke values × (left ≡ flat_map records_in values))
 
 below_all : (rec : Recording) (opened : State) (tracers : Tracers) (places : List ℕ) → NoneBreaks rec opened places (epochs_of places) → NoneBroke (values_of rec opened tracers places)
 below_all rec opened tracers places none k first is =
@@ -99,10 +100,10 @@ merged_is_run rec opened tracers places merges-broken merges-run least-is-first 
     let values = values_of rec opened tracers places in
     ⊎_elim
     (λ (none : NoneBreaks rec opened places (epochs_of places)).
-    merges-run values (below_all rec opened tracers places none) ∙ ap Ok (all_left rec opened tracers places (epochs_of places) 0 (λ k lt. none k (omega (arith, lt))) ∙ of-run none)
+    (merges-run values (flat_map records_in values)).1 (below_all rec opened tracers places none, refl) ∙ ap Ok (all_left rec opened tracers places (epochs_of places) 0 (λ k lt. none k (omega (arith, lt))) ∙ of-run none)
         ∙ ap (λ break. run_value break (records rec tracers opened)) (sym (with-run.0 none)))
     (λ (b : Breaks rec opened places (epochs_of places)).
     let broke : slice_get values b.k ≡ Some (post.Broke b.first) = got rec opened tracers places b.k b.below ∙ ap Some (value_is rec opened tracers places b.k (Some b.first) b.here) in
-    merges-broken values b.k b.first (record { broke = broke; least = λ j earlier lt. got_ran rec opened tracers places j (omega (arith, lt, b.below)) (b.before j lt) earlier })
+    (merges-broken values b.first).1 (b.k, record { broke = broke; least = λ j earlier lt. got_ran rec opened tracers places j (omega (arith, lt, b.below)) (b.before j lt) earlier })
         ∙ ap (λ break. run_value break (records rec tracers opened)) (sym (least-is-first b.k b.first b.below b.before b.here)))
     (least rec opened places (epochs_of places))
