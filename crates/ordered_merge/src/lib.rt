@@ -5,6 +5,8 @@ mod laws;
 mod least;
 mod merging;
 mod parts;
+#[cfg(test)]
+mod tests;
 
 pub use laws::merged_means;
 pub use merging::merge;
