@@ -1,10 +1,10 @@
 -- The least epoch whose post says that it broke is the first that broke; and where no post says so, none was skipped.
-use Rattle.std.proofs.Common.{◌≡◌, ℕ, zero, suc, ◌<◌, Bool, true, false, cond, eqb, List, [], ◌∷◌, length, Some, None, Ok, Err, inl, inr, refl, ap, subst, arith}
+use Rattle.std.proofs.Common.{◌≡◌, ◌≢◌, ◌↔◌, ℕ, zero, suc, ◌<◌, Bool, true, false, cond, eqb, List, [], ◌∷◌, length, Some, None, Ok, Err, inl, inr, refl, ap, subst, arith, ◌∙◌, sym}
 use Rattle.std.specs.List.{All, Contains, count_by, filter_map, flat_map, slice_get}
 use Rattle.std.proofs.lemmas.Bool.{eqb-true}
 use Rattle.std.proofs.lemmas.List.Sums.{sum_by-cons}
 use Rattle.std.proofs.lemmas.List.Elements.{All-contains, Contains-append_right}
-use Rattle.std.proofs.lemmas.Option.{slice_get_within}
+use Rattle.std.proofs.lemmas.Option.{same_Some, slice_get_within}
 use Rattle.call_log.specs.declared.breaks.Break.{Break}
 use Rattle.tracer_lang.specs.declared.record.Record.{Record}
 use Rattle.epoch_core.specs.declared.post.Post.{Post}
@@ -43,6 +43,45 @@ first_break (Skipped below ∷ values) (suc k) first records at = first_break va
 pub merged_broke : (values : List PostValue) (k : ℕ) (first : Break) → BreaksFirstAt values k first → merged values ≡ Err first
 unfolding merged
 merged_broke values k first at = first_break values k first (flat_map records_in values) at
+
+-- a value that is no break, before others
+none_with : (value : PostValue) (values : List PostValue) → ((b : Break) → value ≢ Broke b) → NoneBroke values → NoneBroke (value ∷ values)
+none_with value values not none zero first is = not first (same_Some value (Broke first) is)
+none_with value values not none (suc k) first is = none k first is
+
+none_before : (value : PostValue) (values : List PostValue) (k : ℕ) (first : Break) → ((b : Break) → value ≢ Broke b) → BreaksFirstAt values k first
+    → (j : ℕ) (earlier : Break) → j < suc k → slice_get (value ∷ values) j ≢ Some (Broke earlier)
+none_before value values k first not at zero earlier less is = not earlier (same_Some value (Broke earlier) is)
+none_before value values k first not at (suc j) earlier less is = at.least j earlier (omega arith) is
+
+sooner : (value : PostValue) (values : List PostValue) (first : Break) → ((b : Break) → value ≢ Broke b) → (k : ℕ) × BreaksFirstAt values k first
+    → (k : ℕ) × BreaksFirstAt (value ∷ values) k first
+sooner value values first not (k, at) = (suc k, record { broke = at.broke; least = none_before value values k first not at })
+
+break_from : (values : List PostValue) (records : List Record) (first : Break) → unless_broken (filter_map break_in values) records ≡ Err first
+    → (k : ℕ) × BreaksFirstAt values k first
+break_from [] records first is = absurd (cc)
+break_from (Ran left ∷ values) records first is = sooner (Ran left) values first (λ b same. absurd (cc)) (break_from values records first is)
+break_from (Broke own ∷ values) records first is = (zero, record { broke = cc; least = λ j earlier less here. absurd (omega arith) })
+break_from (Skipped below ∷ values) records first is = sooner (Skipped below) values first (λ b same. absurd (cc)) (break_from values records first is)
+
+records_from : (values : List PostValue) (all records : List Record) → unless_broken (filter_map break_in values) all ≡ Ok records → NoneBroke values × (records ≡ all)
+records_from [] all records is = (λ k first here. absurd (cc), cc)
+records_from (Ran left ∷ values) all records is =
+    let rest = records_from values all records is in
+    (none_with (Ran left) values (λ b same. absurd (cc)) rest.0, rest.1)
+records_from (Broke own ∷ values) all records is = absurd (cc)
+records_from (Skipped below ∷ values) all records is =
+    let rest = records_from values all records is in
+    (none_with (Skipped below) values (λ b same. absurd (cc)) rest.0, rest.1)
+
+pub merged_broke_iff : (values : List PostValue) (first : Break) → (merged values ≡ Err first) ↔ ((k : ℕ) × BreaksFirstAt values k first)
+unfolding merged
+merged_broke_iff values first = (break_from values (flat_map records_in values) first, λ at. merged_broke values at.0 first at.1)
+
+pub merged_ran_iff : (values : List PostValue) (records : List Record) → (merged values ≡ Ok records) ↔ (NoneBroke values × (records ≡ flat_map records_in values))
+unfolding merged
+merged_ran_iff values records = (records_from values (flat_map records_in values) records, λ h. merged_ran values h.0 ∙ ap Ok (sym h.1))
 
 -- ---- each epoch has a post
 
