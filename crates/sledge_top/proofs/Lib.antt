@@ -7,3 +7,4 @@ mod Flats
 mod WordCounts
 mod WholeRun
 mod Turns
+mod Reports

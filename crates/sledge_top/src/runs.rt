@@ -1,7 +1,7 @@
 //! The replay of a recording, cut into epochs.
 
 ghost use Rattle.std.specs.Prelude.{◌≡◌, ◌<◌, IfOk};
-ghost use Rattle.epoch_core.specs.Schedule.{all_posts};
+ghost use Rattle.std.specs.List.{flat_map};
 ghost use Rattle.epoch_run.specs.Records.{emit_at};
 ghost use Rattle.ordered_merge.specs.Merged.{Tells};
 ghost use Rattle.sledge_top.specs.Epochs.{one_after_the_other, run_of};
@@ -31,11 +31,11 @@ fn one_after_the_other(alloc: Global, epochs: u32) -> Result<Vec<CoreEvent>, All
 }
 
 /// The posts of all trays.
-fn all_posts(alloc: Global, trays: Seq<Seq<Post>>) -> Result<Vec<Post>, AllocError>
-    ensures { IfOk result (λ posts. posts.items ≡ all_posts trays) }
+fn all_posts(alloc: Global, trays: Vec<Seq<Post>>) -> Result<Vec<Post>, AllocError>
+    ensures { IfOk result (λ posts. posts.items ≡ flat_map (λ tray. tray) trays.items) }
 {
     let mut posts = Vec::new(alloc);
-    for tray in trays.into_vec() {
+    for tray in trays {
         posts.append(&mut tray.into_vec())?;
     }
     Ok(posts)
@@ -66,6 +66,6 @@ pub fn run_plan<L: Ledger>(
         steps,
     };
     let trays = run_schedule(alloc, &mut runs, epochs, 1, &events)?;
-    let posts = all_posts(alloc, trays)?;
+    let posts = all_posts(alloc, trays.into_vec())?;
     merge(alloc, epochs, posts)
 }

@@ -130,7 +130,7 @@ fn ending_of(rec: &Recording) -> Ending
 
 /// The report with the analysis `all`, at the recorded end.
 fn report_of(alloc: Global, ending: &Ending, records: &[Record]) -> Result<Vec<u8>, AllocError>
-    ensures { IfOk result (λ text. text.items ≡ all_lines 1 records.now ++ (end_line ending.now.end ending.now.count ending.now.pc ++ regs_line ending.now.x)) }
+    ensures { IfOk result (λ text. text.items ≡ all_lines 1 records.now ++ end_line ending.now.end ending.now.count ending.now.pc ++ regs_line ending.now.x) }
 {
     let mut out = Vec::new(alloc);
     push_all_lines(alloc, &mut out, records)?;
