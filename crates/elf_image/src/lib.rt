@@ -4,6 +4,8 @@
 mod fault;
 mod flat;
 mod image;
+#[cfg(test)]
+mod tests;
 
 pub use fault::{ImageCause, ImageFault};
 pub use flat::flat_image;
