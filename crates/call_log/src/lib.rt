@@ -1,9 +1,15 @@
 //! What a recording keeps of a run beside its checkpoints: the answered system calls and how the run ended. And what
-//! a replay tells where it first differs from the recording.
+//! a replay tells where it first differs from the recording, and where a recorded call first does.
 #![tactic(auto)]
 
+mod ask;
 mod breaks;
+mod difference;
 mod entry;
+#[cfg(test)]
+mod tests;
 
+pub use ask::{Ask, CallDiff};
 pub use breaks::{Break, BreakKind};
+pub use difference::first_difference;
 pub use entry::{CallEntry, End};
