@@ -2,6 +2,7 @@
 
 ghost use Rattle.std.specs.Prelude.{◌≡◌, ◌+◌, ◌≤◌, length, IfOk};
 ghost use Rattle.rec_format.specs.Rules.{is_trap};
+ghost use Rattle.rec_format.specs.Sure.{IsSure};
 ghost use Rattle.rec_format.specs.Reading.{Gives, arg_at, args_at, call_at, calls_at, end_at, end_of_kind};
 
 use crate::cursor::Cursor;
@@ -98,7 +99,8 @@ fn end_of(kind: u32, value: u32) -> Option<End>
 /// How the run ended.
 #[tactic(auto, unfolding(crate::specs::Reading::end_at))]
 pub fn end(cursor: &mut Cursor<'_>) -> Result<End, Refused<RecFault>>
-    ensures { Gives (λ end. end) result cursor.new (end_at cursor.old) }
+    ensures read { Gives (λ end. end) result cursor.new (end_at cursor.old) }
+    ensures sure { IsSure result }
 {
     let kind = cursor.word_up_to(STOPPED)?;
     let place = cursor.place();

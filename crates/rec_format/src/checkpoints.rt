@@ -3,6 +3,7 @@
 ghost use Rattle.std.specs.Prelude.{◌≡◌, ◌≤◌, [], ◌∷◌, ◌++◌, Some, None, IfOk};
 ghost use Rattle.rec_format.specs.Rules.{count_of, last_or};
 ghost use Rattle.rec_format.specs.Rules.{listings as all_listings};
+ghost use Rattle.rec_format.specs.Sure.{IsSure};
 ghost use Rattle.rec_format.specs.Reading.{Gives, page_number_at, page_at, pages_at, count_at, checkpoint_at, checkpoints_at};
 
 use crate::calls::kept;
@@ -17,7 +18,8 @@ use std::alloc::Global;
 /// A page's number, above the one before it in its list.
 #[tactic(auto, unfolding(crate::specs::Reading::page_number_at))]
 fn page_number(cursor: &mut Cursor<'_>, before: Option<u32>) -> Result<u32, Refused<RecFault>>
-    ensures { Gives (λ n. n) result cursor.new (page_number_at before cursor.old) }
+    ensures read { Gives (λ n. n) result cursor.new (page_number_at before cursor.old) }
+    ensures sure { IsSure result }
 {
     let place = cursor.place();
     let number = cursor.word_up_to(HIGHEST_PAGE)?;
@@ -78,7 +80,8 @@ fn pages<'a>(
 /// A checkpoint's count, above the one before it.
 #[tactic(auto, unfolding(crate::specs::Reading::count_at))]
 fn count(cursor: &mut Cursor<'_>, before: Option<u64>) -> Result<u64, Refused<RecFault>>
-    ensures { Gives (λ n. n) result cursor.new (count_at before cursor.old) }
+    ensures read { Gives (λ n. n) result cursor.new (count_at before cursor.old) }
+    ensures sure { IsSure result }
 {
     let place = cursor.place();
     let count = cursor.double_word()?;

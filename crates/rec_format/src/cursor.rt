@@ -26,6 +26,7 @@ impl<'a> Model for Cursor<'a> {
 impl<'a> Cursor<'a> {
     ghost use Rattle.std.specs.Prelude.{◌≡◌, ◌+◌, ◌≤◌, ◌<◌, ◌^◌, length, IfOk, IsTrue, ◌↔◌};
     ghost use Rattle.rec_format.specs.Place.{start};
+    ghost use Rattle.rec_format.specs.Sure.{IsSure};
     ghost use Rattle.rec_format.specs.Reading.{Gives, run_at, text_at, word_at, double_word_at, word_up_to, sized_up_to, words_at};
 
     /// The start of a file.
@@ -58,6 +59,7 @@ impl<'a> Cursor<'a> {
     pub fn run(&mut self, len: usize) -> Result<&'a [u8], Refused<RecFault>>
         ensures read { Gives (λ run. run.now) result self.new (run_at len self.old) }
         ensures len { IfOk result (λ run. length run.now ≡ len) }
+        ensures sure { IsSure result }
     {
         if self.rest.len() < len {
             return Err(refused(self.place, RecCause::Short));
@@ -71,7 +73,8 @@ impl<'a> Cursor<'a> {
     /// These very bytes.
     #[tactic(auto, unfolding(crate::specs::Reading::text_at))]
     pub fn text(&mut self, text: &[u8], cause: RecCause) -> Result<&'a [u8], Refused<RecFault>>
-        ensures { Gives (λ run. run.now) result self.new (text_at text.now cause self.old) }
+        ensures read { Gives (λ run. run.now) result self.new (text_at text.now cause self.old) }
+        ensures sure { IsSure result }
     {
         let place = self.place();
         let run = self.run(text.len())?;
@@ -85,7 +88,8 @@ impl<'a> Cursor<'a> {
     /// A number of four bytes.
     #[tactic(auto, unfolding(crate::specs::Reading::word_at))]
     pub fn word(&mut self) -> Result<u32, Refused<RecFault>>
-        ensures { Gives (λ n. n) result self.new (word_at self.old) }
+        ensures read { Gives (λ n. n) result self.new (word_at self.old) }
+        ensures sure { IsSure result }
     {
         let run = self.run(4)?;
         Ok(LittleEndian::read_u32(run))
@@ -94,7 +98,8 @@ impl<'a> Cursor<'a> {
     /// A number of eight bytes.
     #[tactic(auto, unfolding(crate::specs::Reading::double_word_at))]
     pub fn double_word(&mut self) -> Result<u64, Refused<RecFault>>
-        ensures { Gives (λ n. n) result self.new (double_word_at self.old) }
+        ensures read { Gives (λ n. n) result self.new (double_word_at self.old) }
+        ensures sure { IsSure result }
     {
         let run = self.run(8)?;
         Ok(LittleEndian::read_u64(run))
@@ -103,7 +108,8 @@ impl<'a> Cursor<'a> {
     /// A number of four bytes that is at most `most`.
     #[tactic(auto, unfolding(crate::specs::Reading::word_up_to))]
     pub fn word_up_to(&mut self, most: u32) -> Result<u32, Refused<RecFault>>
-        ensures { Gives (λ n. n) result self.new (word_up_to most self.old) }
+        ensures read { Gives (λ n. n) result self.new (word_up_to most self.old) }
+        ensures sure { IsSure result }
     {
         let place = self.place();
         let n = self.word()?;
@@ -116,7 +122,8 @@ impl<'a> Cursor<'a> {
     /// At most `most` bytes, after their number.
     #[tactic(auto, unfolding(crate::specs::Reading::sized_up_to))]
     pub fn sized_up_to(&mut self, most: u32) -> Result<&'a [u8], Refused<RecFault>>
-        ensures { Gives (λ run. run.now) result self.new (sized_up_to most self.old) }
+        ensures read { Gives (λ run. run.now) result self.new (sized_up_to most self.old) }
+        ensures sure { IsSure result }
     {
         let len = self.word_up_to(most)?;
         self.run(len as usize)
@@ -124,7 +131,8 @@ impl<'a> Cursor<'a> {
 
     /// `N` numbers of four bytes.
     pub fn words<const N: usize>(&mut self) -> Result<[u32; N], Refused<RecFault>>
-        ensures { Gives (λ words. words) result self.new (words_at N self.old) }
+        ensures read { Gives (λ words. words) result self.new (words_at N self.old) }
+        ensures sure { IsSure result }
     {
         let mut words = [0; N];
         for i in 0..N {
