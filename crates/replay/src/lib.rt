@@ -6,3 +6,6 @@ mod ending;
 
 pub use advancing::advance_one;
 pub use ending::end_break;
+
+#[cfg(test)]
+mod tests;
