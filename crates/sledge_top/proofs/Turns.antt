@@ -81,8 +81,8 @@ runs_on values (suc n) k low tray long =
     let events = turns n ++ Leave 0 ∷ [] in
     let is : slice_get values k ≡ Some value = slice_get-get_or values k (Skipped 0) below in
     let goes : run_events values (idle k low tray) (Claim 0 ∷ Finish 0 ∷ events) ≡ run_events values (idle (k + 1) (low_after low k value) (tray ++ post_of k value ∷ [])) events =
-        one_turn values (idle k low tray) events ∙ ap (λ core. run_events values (finish values core 0) events) (claimed (length values) k low tray below)
-        ∙ ap (λ core. run_events values core events) (finished_one values k low tray value is)
+    one_turn values (idle k low tray) events ∙ ap (λ core. run_events values (finish values core 0) events) (claimed (length values) k low tray below)
+    ∙ ap (λ core. run_events values core events) (finished_one values k low tray value is)
     in
     subst (IsDone (length values)) (sym goes) (runs_on values n (k + 1) (low_after low k value) (tray ++ post_of k value ∷ []) (omega (arith, long)))
 

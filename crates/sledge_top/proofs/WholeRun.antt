@@ -101,9 +101,9 @@ merged_is_run rec opened tracers places merges-broken merges-run least-is-first 
     ⊎_elim
     (λ (none : NoneBreaks rec opened places (epochs_of places)).
     (merges-run values (flat_map records_in values)).1 (below_all rec opened tracers places none, refl) ∙ ap Ok (all_left rec opened tracers places (epochs_of places) 0 (λ k lt. none k (omega (arith, lt))) ∙ of-run none)
-        ∙ ap (λ break. run_value break (records rec tracers opened)) (sym (with-run.0 none)))
+    ∙ ap (λ break. run_value break (records rec tracers opened)) (sym (with-run.0 none)))
     (λ (b : Breaks rec opened places (epochs_of places)).
     let broke : slice_get values b.k ≡ Some (post.Broke b.first) = got rec opened tracers places b.k b.below ∙ ap Some (value_is rec opened tracers places b.k (Some b.first) b.here) in
     (merges-broken values b.first).1 (b.k, record { broke = broke; least = λ j earlier lt. got_ran rec opened tracers places j (omega (arith, lt, b.below)) (b.before j lt) earlier })
-        ∙ ap (λ break. run_value break (records rec tracers opened)) (sym (least-is-first b.k b.first b.below b.before b.here)))
+    ∙ ap (λ break. run_value break (records rec tracers opened)) (sym (least-is-first b.k b.first b.below b.before b.here)))
     (least rec opened places (epochs_of places))

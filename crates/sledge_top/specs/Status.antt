@@ -62,18 +62,18 @@ break_line count (kind.CallsLeft index) = broken_line count (codes "call " ∷ d
 break_line count (kind.CheckpointDiffers index part address recorded replayed) =
     line_of
     (codes "checkpoint "
-        ∷ decimal index
-        ∷ codes " differs at count "
-        ∷ decimal count
-        ∷ codes ", part "
-        ∷ decimal part
-        ∷ codes ", at "
-        ∷ word_text address
-        ∷ codes ": recorded "
-        ∷ word_text recorded
-        ∷ codes ", replayed "
-        ∷ word_text replayed
-        ∷ [])
+    ∷ decimal index
+    ∷ codes " differs at count "
+    ∷ decimal count
+    ∷ codes ", part "
+    ∷ decimal part
+    ∷ codes ", at "
+    ∷ word_text address
+    ∷ codes ": recorded "
+    ∷ word_text recorded
+    ∷ codes ", replayed "
+    ∷ word_text replayed
+    ∷ [])
 
 -- what stands on the second output, which is nothing after Ok
 abbrev pub fault_line : Status → List ℕ

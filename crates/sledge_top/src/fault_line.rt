@@ -212,12 +212,7 @@ pub fn write_fault<E: Sink>(err: &mut E, status: &Status) -> Result<(), SinkFail
         Status::Usage => write_pieces(err, &[Text("sledge: "), Text("usage"), Text("\n")]),
         Status::Absent { name } => write_pieces(
             err,
-            &[
-                Text("sledge: "),
-                Text("absent: "),
-                Name(name),
-                Text("\n"),
-            ],
+            &[Text("sledge: "), Text("absent: "), Name(name), Text("\n")],
         ),
         Status::TooLong { limit, name } => write_pieces(
             err,

@@ -8,9 +8,7 @@ ghost use Rattle.sledge_top.specs.Epochs.{one_after_the_other, run_of};
 
 use call_log::Break;
 use epoch_core::{CoreEvent, Post, run_schedule};
-use epoch_run::{
-    Plan, PlanRuns, Worker, least_break_is_first, records_are_those_of_the_run,
-};
+use epoch_run::{Plan, PlanRuns, Worker, least_break_is_first, records_are_those_of_the_run};
 use ordered_merge::{merge, merged_means};
 use sl_base::{Refused, Seq, Steps};
 use std::alloc::{AllocError, Global};

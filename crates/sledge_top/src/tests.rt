@@ -52,7 +52,44 @@ fn refusals(rt: HostRuntime) -> Result<(), Fail> {
             2,
             "sledge: absent: none.rec\n",
         ),
-        ("trace e.rec at 10008", 15, "sledge: not built\n"),
+        (
+            "trace e.rec at 10008",
+            4,
+            "sledge: recording broken at 0: Short\n",
+        ),
+        ("trace e.rec at 0 --epochs", 1, "sledge: usage\n"),
+        ("trace e.rec at 0 --epochs=", 1, "sledge: usage\n"),
+        ("trace e.rec at 0 --epochs 0", 1, "sledge: usage\n"),
+        ("trace e.rec at 0 --epochs 4097", 1, "sledge: usage\n"),
+        ("trace e.rec at 0 --epochs -1", 1, "sledge: usage\n"),
+        ("trace e.rec at 0 --epochs 0x2", 1, "sledge: usage\n"),
+        ("trace e.rec at 0 --epoch 2", 1, "sledge: usage\n"),
+        (
+            "trace e.rec at 0 --epochs 00000000000002",
+            1,
+            "sledge: usage\n",
+        ),
+        (
+            "trace e.rec at 0 --epochs=2 --epochs=2",
+            1,
+            "sledge: usage\n",
+        ),
+        ("--epochs=2 trace e.rec at 0", 1, "sledge: usage\n"),
+        (
+            "trace --epochs 4096 none.rec at 0",
+            2,
+            "sledge: absent: none.rec\n",
+        ),
+        (
+            "trace none.rec --epochs=0000000000001 at 0",
+            2,
+            "sledge: absent: none.rec\n",
+        ),
+        (
+            "trace none.rec at --epochs 1 0",
+            2,
+            "sledge: absent: none.rec\n",
+        ),
     ] {
         let mut store = store_of(alloc, "e.rec", Vec::new(alloc), &[])?;
         let mut out = MemorySink::new(alloc, 100, Vec::new(alloc))?;
@@ -135,16 +172,25 @@ fn second_output_fails(rt: HostRuntime) -> Result<(), Fail> {
     Ok(())
 }
 
-/// A recording without arguments, calls, checkpoints before the end and listed pages, of a program at 0x10000.
+/// The machine at a checkpoint.
 #[derive(Drop)]
-struct Recorded<'a> {
-    program: &'a [u32],
-    /// The kind and the value of the end.
-    end: [u32; 2],
+struct At<'a> {
     count: u32,
     pc: u32,
     /// The registers that are not 0 beside the stack pointer.
     registers: &'a [(usize, u32)],
+}
+
+/// A recording without arguments and calls, of a program at 0x10000.
+#[derive(Drop)]
+struct Recorded<'a> {
+    program: &'a [u32],
+    checkpoints: &'a [At<'a>],
+    /// The kind and the value of the end.
+    end: [u32; 2],
+    last: At<'a>,
+    /// A page that the end lists, and its first bytes, if it lists one.
+    page: Option<(u32, &'a [u8])>,
 }
 
 /// Adds numbers of four bytes.
@@ -155,29 +201,43 @@ fn push_words(out: &mut Vec<u8>, words: &[u32]) -> Result<(), Fail> {
     Ok(())
 }
 
+/// Adds a checkpoint that lists so many pages.
+fn push_checkpoint(out: &mut Vec<u8>, at: &At<'_>, pages: u32) -> Result<(), Fail> {
+    push_words(out, &[at.count, 0, at.pc])?;
+    let mut x = [0; 32];
+    x[2] = 0x7fff_ffe0;
+    for (number, value) in at.registers {
+        x[*number] = *value;
+    }
+    push_words(out, &x[1..])?;
+    push_words(out, &[0x11000, 0x11000, 0, pages])
+}
+
 /// The bytes of a recording.
 fn recording_of(alloc: Global, recorded: &Recorded<'_>) -> Result<Vec<u8>, Fail> {
     let mut bytes = b"SLDGREC1".to_vec(alloc)?;
-    push_words(
-        &mut bytes,
-        &[0, 0x10000, 4 * recorded.program.len() as u32],
-    )?;
+    push_words(&mut bytes, &[0, 0x10000, 4 * recorded.program.len() as u32])?;
     push_words(&mut bytes, recorded.program)?;
-    push_words(&mut bytes, &[0, 0, 0])?;
-    push_words(&mut bytes, &recorded.end)?;
-    push_words(&mut bytes, &[recorded.count, 0, recorded.pc])?;
-    let mut x = [0; 32];
-    x[2] = 0x7fff_ffe0;
-    for (number, value) in recorded.registers {
-        x[*number] = *value;
+    push_words(&mut bytes, &[0, 0, recorded.checkpoints.len() as u32])?;
+    for checkpoint in recorded.checkpoints {
+        push_checkpoint(&mut bytes, checkpoint, 0)?;
     }
-    push_words(&mut bytes, &x[1..])?;
-    push_words(&mut bytes, &[0x11000, 0x11000, 0, 0])?;
+    push_words(&mut bytes, &recorded.end)?;
+    match &recorded.page {
+        None => push_checkpoint(&mut bytes, &recorded.last, 0)?,
+        Some((number, first)) => {
+            push_checkpoint(&mut bytes, &recorded.last, 1)?;
+            push_words(&mut bytes, &[*number])?;
+            let start = bytes.len();
+            bytes.resize(start + 4096, 0)?;
+            bytes[start..start + first.len()].copy_from_slice(first);
+        }
+    }
     Ok(bytes)
 }
 
 /// Loads 5 into a0 and exits.
-const EXITS_WITH_5: [u32; 3] = [0x0050_0513, 0x05d0_0893, 0x73];
+const EXITS: [u32; 3] = [0x0050_0513, 0x05d0_0893, 0x73];
 
 /// Adds 3 to a0 a thousand times, in a loop with a jump over an instruction, and exits.
 const LOOPS: [u32; 8] = [
@@ -191,50 +251,123 @@ const LOOPS: [u32; 8] = [
     0x73,
 ];
 
-/// Stores the stack pointer at itself, and traps at an EBREAK.
-const STORES: [u32; 2] = [0x0021_2023, 0x0010_0073];
+/// The recording of `EXITS` with these checkpoints before the end.
+fn exits<'a>(checkpoints: &'a [At<'a>]) -> Recorded<'a> {
+    Recorded {
+        program: &EXITS,
+        checkpoints,
+        end: [0, 5],
+        last: At {
+            count: 3,
+            pc: 0x1000c,
+            registers: &[(10, 5), (17, 0x5d)],
+        },
+        page: None,
+    }
+}
+
+/// The checkpoint of `EXITS` before its last instruction.
+const BEFORE_THE_EXIT: [At<'static>; 1] = [At {
+    count: 2,
+    pc: 0x10008,
+    registers: &[(10, 5), (17, 0x5d)],
+}];
+
+/// What a command over one recording ended with, and its two outputs.
+fn done<R: Threads + Sync>(
+    rt: &R,
+    alloc: Global,
+    bytes: &[u8],
+    text: &str,
+) -> Result<(u8, MemorySink, MemorySink), Fail> {
+    let mut store = store_of(alloc, "a.rec", bytes.to_vec(alloc)?, &[])?;
+    let mut out = MemorySink::new(alloc, 300, Vec::new(alloc))?;
+    let mut err = MemorySink::new(alloc, 150, Vec::new(alloc))?;
+    let mut world = MemoryWorld::new(Vec::new(alloc));
+    let words = words_of(alloc, text)?;
+    let status = sledge(
+        rt, alloc, &words, &mut store, &mut world, &mut out, &mut err, &NoGate,
+    );
+    Ok((status.code(), out, err))
+}
+
+/// The report of `EXITS` with its one record.
+const EXITS_REPORT: &str =
+    "1,all,2,0,0x00010008,Done,0x00000005\nend,exited,3,,0x0001000c,,0x00000005\nregs,x,,,,,x2=0x7fffffe0 x10=0x00000005 x17=0x0000005d\n";
 
 #[test]
 fn reports(rt: HostRuntime) -> Result<(), Fail> {
     let alloc = rt.alloc();
-    let exits = Recorded {
-        program: &EXITS_WITH_5,
-        end: [0, 5],
-        count: 3,
-        pc: 0x1000c,
-        registers: &[(10, 5), (17, 0x5d)],
-    };
+    let exits_alone = exits(&[]);
+    let exits_in_two = exits(&BEFORE_THE_EXIT);
     let loops = Recorded {
         program: &LOOPS,
+        checkpoints: &[],
         end: [0, 3000],
-        count: 4003,
-        pc: 0x10020,
-        registers: &[(10, 3000), (17, 0x5d)],
+        last: At {
+            count: 4003,
+            pc: 0x10020,
+            registers: &[(10, 3000), (17, 0x5d)],
+        },
+        page: None,
     };
     let illegal = Recorded {
         program: &[0],
+        checkpoints: &[],
         end: [1, 2],
-        count: 0,
-        pc: 0x10000,
-        registers: &[],
+        last: At {
+            count: 0,
+            pc: 0x10000,
+            registers: &[],
+        },
+        page: None,
     };
     let stopped = Recorded {
         program: &[0x6f],
+        checkpoints: &[],
         end: [2, 0],
-        count: 2,
-        pc: 0x10000,
-        registers: &[],
+        last: At {
+            count: 2,
+            pc: 0x10000,
+            registers: &[],
+        },
+        page: None,
     };
-    assert_eq!(rt; recording_of(alloc, &exits)?.len(), 204);
+    // Stores t0 at 0x10000, over its first instruction, and traps at an EBREAK.
+    let stores = Recorded {
+        program: &[0x0001_02b7, 0x0052_a023, 0x0010_0073],
+        checkpoints: &[],
+        end: [1, 3],
+        last: At {
+            count: 2,
+            pc: 0x10008,
+            registers: &[(5, 0x10000)],
+        },
+        page: Some((16, &[0, 0, 1, 0, 0x23, 0xa0, 0x52, 0, 0x73, 0, 0x10, 0])),
+    };
+    assert_eq!(rt; recording_of(alloc, &exits_alone)?.len(), 204);
+    assert_eq!(rt; recording_of(alloc, &exits_in_two)?.len(), 356);
     assert_eq!(rt; recording_of(alloc, &illegal)?.len(), 196);
     for (recorded, text, report) in [
+        (&exits_alone, "trace a.rec at 10008", EXITS_REPORT),
+        (&exits_in_two, "trace a.rec at 10008", EXITS_REPORT),
         (
-            &exits,
-            "trace a.rec at 10008",
-            "1,all,2,0,0x00010008,Done,0x00000005\nend,exited,3,,0x0001000c,,0x00000005\nregs,x,,,,,x2=0x7fffffe0 x10=0x00000005 x17=0x0000005d\n",
+            &exits_in_two,
+            "trace a.rec at 10008 --epochs 1",
+            EXITS_REPORT,
         ),
         (
-            &exits,
+            &exits_in_two,
+            "trace --epochs=2 a.rec at 0x10008",
+            EXITS_REPORT,
+        ),
+        (
+            &exits_in_two,
+            "trace a.rec at 10008 --epochs 4096",
+            EXITS_REPORT,
+        ),
+        (
+            &exits_alone,
             "trace a.rec at 0x1000c",
             "end,exited,3,,0x0001000c,,0x00000005\nregs,x,,,,,x2=0x7fffffe0 x10=0x00000005 x17=0x0000005d\n",
         ),
@@ -253,95 +386,211 @@ fn reports(rt: HostRuntime) -> Result<(), Fail> {
             "trace a.rec at 10000",
             "1,all,0,0,0x00010000,Done,0x00000000\n1,all,1,0,0x00010000,Done,0x00000000\nend,stopped,2,,0x00010000,,0x00000000\nregs,x,,,,,x2=0x7fffffe0\n",
         ),
+        (
+            &stores,
+            "trace a.rec at 10004",
+            "1,all,1,0,0x00010004,Done,0x00000000\nend,trapped,2,,0x00010008,,0x00000003\nregs,x,,,,,x2=0x7fffffe0 x5=0x00010000\n",
+        ),
     ] {
-        let mut store = store_of(alloc, "a.rec", recording_of(alloc, recorded)?, &[])?;
-        let mut out = MemorySink::new(alloc, 300, Vec::new(alloc))?;
-        let mut err = MemorySink::new(alloc, 100, Vec::new(alloc))?;
-        let mut world = MemoryWorld::new(Vec::new(alloc));
-        let words = words_of(alloc, text)?;
-        let status = sledge(
-            &rt, alloc, &words, &mut store, &mut world, &mut out, &mut err, &NoGate,
-        );
-        assert_eq!(rt; status.code(), 0, "{text}");
+        let (code, out, err) = done(&rt, alloc, &recording_of(alloc, recorded)?, text)?;
+        assert_eq!(rt; code, 0, "{text}");
         assert_eq!(rt; out.bytes(), report.as_bytes(), "{text}");
         assert!(rt; err.bytes().is_empty(), "{text}");
     }
     Ok(())
 }
 
-/// Recordings whose replay differs, one part after the other, and programs that are none.
+/// One byte of the recording of `EXITS` with a checkpoint at count 2 is changed: what the command ends with, in one
+/// epoch and in two.
 #[test]
-fn what_is_not_built(rt: HostRuntime) -> Result<(), Fail> {
+fn recordings_that_lie(rt: HostRuntime) -> Result<(), Fail> {
     let alloc = rt.alloc();
-    let mut exits = recording_of(
-        alloc,
-        &Recorded {
-            program: &EXITS_WITH_5,
-            end: [0, 5],
-            count: 3,
-            pc: 0x1000c,
-            registers: &[(10, 5), (17, 0x5d)],
-        },
-    )?;
-    for (place, what) in [
-        (8, "kind"),
-        (14, "load address"),
-        (24, "second instruction"),
-        (44, "end kind"),
-        (48, "end value"),
-        (52, "count"),
-        (60, "pc"),
-        (64, "x1"),
-        (68, "x2"),
-        (184, "x31"),
-        (188, "break"),
-        (192, "mapped end"),
-        (196, "next call"),
+    let mut bytes = recording_of(alloc, &exits(&BEFORE_THE_EXIT))?;
+    for (place, value, code, line) in [
+        (7, 0x32, 4, "recording broken at 7: Version"),
+        (8, 1, 4, "recording broken at 12: Range"),
+        (
+            14,
+            0,
+            9,
+            "checkpoint 1 differs at count 2, part 0, at 0x00000000: recorded 0x00010008, replayed 0x00000008",
+        ),
+        (15, 0xff, 15, "not built"),
+        (
+            15,
+            0x80,
+            9,
+            "checkpoint 1 differs at count 2, part 0, at 0x00000000: recorded 0x00010008, replayed 0x80010008",
+        ),
+        (24, 0x92, 8, "replay broken at count 1: ends before 3"),
+        (
+            24,
+            0x13,
+            9,
+            "checkpoint 1 differs at count 2, part 16, at 0x00000000: recorded 0x00000000, replayed 0x0000005d",
+        ),
+        (44, 0, 4, "recording broken at 44: Order"),
+        (44, 3, 4, "recording broken at 204: Order"),
+        (
+            44,
+            1,
+            9,
+            "checkpoint 1 differs at count 1, part 0, at 0x00000000: recorded 0x00010008, replayed 0x00010004",
+        ),
+        (
+            56,
+            1,
+            9,
+            "checkpoint 1 differs at count 2, part 1, at 0x00000000: recorded 0x00000001, replayed 0x00000000",
+        ),
+        (
+            92,
+            6,
+            9,
+            "checkpoint 1 differs at count 2, part 10, at 0x00000000: recorded 0x00000006, replayed 0x00000005",
+        ),
+        (
+            176,
+            1,
+            9,
+            "checkpoint 1 differs at count 2, part 31, at 0x00000000: recorded 0x00000001, replayed 0x00000000",
+        ),
+        (
+            181,
+            0x11,
+            9,
+            "checkpoint 1 differs at count 2, part 32, at 0x00000000: recorded 0x00011100, replayed 0x00011000",
+        ),
+        (
+            185,
+            0x20,
+            9,
+            "checkpoint 1 differs at count 2, part 33, at 0x00000000: recorded 0x00012000, replayed 0x00011000",
+        ),
+        (
+            188,
+            1,
+            9,
+            "checkpoint 1 differs at count 2, part 34, at 0x00000000: recorded 0x00000001, replayed 0x00000000",
+        ),
+        (196, 2, 4, "recording broken at 200: Range"),
+        (
+            200,
+            6,
+            8,
+            "replay broken at count 3: end is exited 0x00000005, recorded exited 0x00000006",
+        ),
+        (204, 4, 8, "replay broken at count 3: ends before 4"),
+        (
+            212,
+            8,
+            9,
+            "checkpoint 2 differs at count 3, part 0, at 0x00000000: recorded 0x00010008, replayed 0x0001000c",
+        ),
     ] {
-        exits[place] ^= 1;
-        assert_eq!(rt; code_of(&rt, alloc, &exits)?, (15, 0), "{what}");
-        exits[place] ^= 1;
+        let saved = bytes[place];
+        bytes[place] = value;
+        for text in ["trace a.rec at 10008", "trace a.rec at 10008 --epochs 1"] {
+            let (ended, out, err) = done(&rt, alloc, &bytes, text)?;
+            assert_eq!(rt; ended, code, "{place} {value}");
+            assert_eq!(rt;
+                err.bytes(),
+                format!(in alloc; "sledge: {line}\n")?.as_bytes(),
+                "{place} {value}"
+            );
+            assert!(rt; out.bytes().is_empty(), "{place} {value}");
+        }
+        bytes[place] = saved;
     }
-    assert_eq!(rt; code_of(&rt, alloc, &exits)?, (0, 129));
-    exits[14] = 0xf0;
-    exits[15] = 0x7f;
-    assert_eq!(rt; code_of(&rt, alloc, &exits)?, (15, 0), "load address in the stack");
-    let stores = Recorded {
-        program: &STORES,
-        end: [1, 3],
-        count: 1,
-        pc: 0x10004,
-        registers: &[],
-    };
-    assert_eq!(rt; code_of(&rt, alloc, &recording_of(alloc, &stores)?)?, (15, 0));
+    bytes.push(0)?;
+    let (code, _, err) = done(&rt, alloc, &bytes, "trace a.rec at 10008")?;
+    assert_eq!(rt; code, 4);
+    assert_eq!(rt;
+        err.bytes(),
+        b"sledge: recording broken at 356: Trailing\n".as_slice()
+    );
     Ok(())
 }
 
-/// The number that a command over one recording ends with, and how many bytes it wrote.
-fn code_of<R: Threads + Sync>(rt: &R, alloc: Global, bytes: &[u8]) -> Result<(u8, usize), Fail> {
-    let mut store = store_of(alloc, "a.rec", bytes.to_vec(alloc)?, &[])?;
-    let mut out = MemorySink::new(alloc, 300, Vec::new(alloc))?;
-    let mut err = MemorySink::new(alloc, 100, Vec::new(alloc))?;
-    let mut world = MemoryWorld::new(Vec::new(alloc));
-    let words = words_of(alloc, "trace a.rec at 10008")?;
-    let status = sledge(
-        rt, alloc, &words, &mut store, &mut world, &mut out, &mut err, &NoGate,
-    );
-    Ok((status.code(), out.bytes().len()))
+/// Programs whose replay breaks in memory, at a call and at the end.
+#[test]
+fn broken_replays(rt: HostRuntime) -> Result<(), Fail> {
+    let alloc = rt.alloc();
+    for (program, end, count, pc, page, line) in [
+        // Stores the stack pointer at itself, which no checkpoint lists.
+        (
+            [0x0021_2023, 0x0010_0073],
+            [1, 3],
+            1,
+            0x10004,
+            None,
+            "checkpoint 1 differs at count 1, part 35, at 0x7fffffe0: recorded 0x00000000, replayed 0x000000e0",
+        ),
+        // Lists a page that is not mapped.
+        (
+            [0x0000_0013, 0x0010_0073],
+            [1, 3],
+            1,
+            0x10004,
+            Some((5, [1].as_slice())),
+            "checkpoint 1 differs at count 1, part 36, at 0x00005000: recorded 0x00000001, replayed 0x00000000",
+        ),
+        // Makes a call that is not recorded.
+        (
+            [0x0000_0073, 0x0010_0073],
+            [1, 3],
+            1,
+            0x10004,
+            None,
+            "replay broken at count 0: call 0 is not recorded",
+        ),
+        // Traps otherwise than recorded.
+        (
+            [0x0000_0013, 0x0010_0073],
+            [1, 2],
+            1,
+            0x10004,
+            None,
+            "replay broken at count 1: end is trapped 0x00000003, recorded trapped 0x00000002",
+        ),
+        // Runs where it should have exited.
+        (
+            [0x0000_0013, 0x0010_0073],
+            [0, 7],
+            1,
+            0x10004,
+            None,
+            "replay broken at count 1: end is stopped 0x00000000, recorded exited 0x00000007",
+        ),
+    ] {
+        let recorded = Recorded {
+            program: &program,
+            checkpoints: &[],
+            end,
+            last: At {
+                count,
+                pc,
+                registers: &[],
+            },
+            page,
+        };
+        let bytes = recording_of(alloc, &recorded)?;
+        let (_, out, err) = done(&rt, alloc, &bytes, "trace a.rec at 10000")?;
+        assert_eq!(rt;
+            err.bytes(),
+            format!(in alloc; "sledge: {line}\n")?.as_bytes(),
+            "{line}"
+        );
+        assert!(rt; out.bytes().is_empty(), "{line}");
+    }
+    Ok(())
 }
 
 /// A first output with room for ten bytes holds the first ten of the report.
 #[test]
 fn first_output_fails(rt: HostRuntime) -> Result<(), Fail> {
     let alloc = rt.alloc();
-    let exits = Recorded {
-        program: &EXITS_WITH_5,
-        end: [0, 5],
-        count: 3,
-        pc: 0x1000c,
-        registers: &[(10, 5), (17, 0x5d)],
-    };
-    let mut store = store_of(alloc, "a.rec", recording_of(alloc, &exits)?, &[])?;
+    let mut store = store_of(alloc, "a.rec", recording_of(alloc, &exits(&[]))?, &[])?;
     let mut out = MemorySink::new(alloc, 10, Vec::new(alloc))?;
     let mut err = MemorySink::new(alloc, 100, Vec::new(alloc))?;
     let mut world = MemoryWorld::new(Vec::new(alloc));

@@ -170,13 +170,7 @@ fn read_with_option(words: &[String]) -> Option<Order<'_>>
 }
 
 /// Five words, of which one is the option with its value.
-fn read_five<'a>(
-    command: &str,
-    a: &'a str,
-    b: &'a str,
-    c: &'a str,
-    d: &'a str,
-) -> Option<Order<'a>>
+fn read_five<'a>(command: &str, a: &'a str, b: &'a str, c: &'a str, d: &'a str) -> Option<Order<'a>>
     ensures order { option_map order_of result ≡ read_with_option (command.now ∷ a.now ∷ b.now ∷ c.now ∷ d.now ∷ []) }
     ensures range { IfSome result HasEpochs }
 {

@@ -39,6 +39,6 @@ returns g c =
     let told : Tells c.merge.result (merged values) = c.merge.ensures values long (subst (Posted values) (sym (c.in_ok-posts.ensures ∙ ap all_posts c.into_vec.ensures)) whole) in
     subst (Tells c.merge.result)
     (merged_is_run plan.rec opened tracers plan.cutting c.merged_means.ensures.broke c.merged_means.ensures.ran
-        (c.least_break_is_first.ensures.first plan.rec opened plan.cutting plan.is_value plan.opens plan.cuts) (c.least_break_is_first.ensures.none plan.rec opened plan.cutting plan.is_value plan.opens plan.cuts)
-        (c.records_are_those_of_the_run.ensures plan.rec opened tracers plan.cutting plan.is_value plan.opens plan.cuts))
+    (c.least_break_is_first.ensures.first plan.rec opened plan.cutting plan.is_value plan.opens plan.cuts) (c.least_break_is_first.ensures.none plan.rec opened plan.cutting plan.is_value plan.opens plan.cuts)
+    (c.records_are_those_of_the_run.ensures plan.rec opened tracers plan.cutting plan.is_value plan.opens plan.cuts))
     told

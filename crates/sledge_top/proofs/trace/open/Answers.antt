@@ -30,7 +30,7 @@ returns-clause-opening c =
     let bytes = c.as_slice-bytes.result.now in
     let flat = (loadable rec.load_addr bytes _ c.in-Ok.ensures).image in
     let opening_is : IsOpening (opening (one_segment rec.load_addr bytes) []) =
-        record { fits = c.runs_fit.ensures.opening rec.load_addr bytes (one_segment rec.load_addr bytes) [] flat; no_heap = (c.programs_open_so.ensures.flat rec.load_addr bytes (one_segment rec.load_addr bytes) [] flat).heap } in
+    record { fits = c.runs_fit.ensures.opening rec.load_addr bytes (one_segment rec.load_addr bytes) [] flat; no_heap = (c.programs_open_so.ensures.flat rec.load_addr bytes (one_segment rec.load_addr bytes) [] flat).heap } in
     subst IsOpening (sym c.in_ok-load.ensures.state) opening_is
 
 pub returns-clause-opened : goal.returns-clause-opened

@@ -17,8 +17,8 @@ returns-in_ok-report_of-in-Ok-clause-text c =
     traced_ran plan.rec plan.address opened c.in-Ok.records (c.runs_end_as_recorded.ensures plan.rec opened plan.is_value plan.opens) c.in-Ok.ensures
     ∙ ap Ok
     (sym
-        (c.in_ok-report_of-in-Ok.ensures ∙ ap (λ (r : List Record). all_lines 1 r ++ end_line ending.end ending.count ending.pc ++ regs_line ending.x) c.as_slice.ensures
-        ∙ ap (λ e. all_lines 1 c.in-Ok.records ++ end_line e.end e.count e.pc ++ regs_line e.x) c.ending_of-ending.ensures))
+    (c.in_ok-report_of-in-Ok.ensures ∙ ap (λ (r : List Record). all_lines 1 r ++ end_line ending.end ending.count ending.pc ++ regs_line ending.x) c.as_slice.ensures
+    ∙ ap (λ e. all_lines 1 c.in-Ok.records ++ end_line e.end e.count e.pc ++ regs_line e.x) c.ending_of-ending.ensures))
 
 pub returns-in-Err-Fault-clause-text : goal.returns-in-Err-Fault-clause-text
 returns-in-Err-Fault-clause-text c =

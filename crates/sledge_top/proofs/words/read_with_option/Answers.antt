@@ -10,6 +10,6 @@ pub returns-in_default-clause-order : goal.returns-in_default-clause-order
 returns-in_default-clause-order c =
     let words = c.args.words.now in
     elim c.in_default.branch [
-      in_default-via-then-words-lt5 w ↦ c.read_with_value.ensures.order ∙ sym (fewer_than_5 (map string_bytes words) (grind (arith, nat_tests, length-map words string_bytes)))
+      | in_default-via-then-words-lt5 w ↦ c.read_with_value.ensures.order ∙ sym (fewer_than_5 (map string_bytes words) (grind (arith, nat_tests, length-map words string_bytes)))
       | in_default-via-else-words-lt5+else-words-lt6 w ↦ c.read_with_value.ensures.order ∙ sym (more_than_5 (map string_bytes words) (grind (arith, nat_tests, length-map words string_bytes)))
     ]

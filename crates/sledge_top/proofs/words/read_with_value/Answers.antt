@@ -10,6 +10,6 @@ pub returns-in_default-clause-order : goal.returns-in_default-clause-order
 returns-in_default-clause-order c =
     let words = c.args.words.now in
     elim c.in_default.branch [
-      in_default-via-then-words-lt6 w ↦ sym (fewer_than_6 (map string_bytes words) (grind (arith, nat_tests, length-map words string_bytes)))
+      | in_default-via-then-words-lt6 w ↦ sym (fewer_than_6 (map string_bytes words) (grind (arith, nat_tests, length-map words string_bytes)))
       | in_default-via-else-words-lt6+else-words-lt7 w ↦ sym (more_than_6 (map string_bytes words) (grind (arith, nat_tests, length-map words string_bytes)))
     ]

@@ -10,6 +10,6 @@ pub returns-in_default-clause-order : goal.returns-in_default-clause-order
 returns-in_default-clause-order c =
     let words = c.args.words.now in
     elim c.in_default.branch [
-      in_default-via-then-words-lt4 w ↦ c.read_with_option.ensures.order ∙ sym (fewer_than_4 (map string_bytes words) (grind (arith, nat_tests, length-map words string_bytes)))
+      | in_default-via-then-words-lt4 w ↦ c.read_with_option.ensures.order ∙ sym (fewer_than_4 (map string_bytes words) (grind (arith, nat_tests, length-map words string_bytes)))
       | in_default-via-else-words-lt4+else-words-lt5 w ↦ c.read_with_option.ensures.order ∙ sym (more_than_4 (map string_bytes words) (grind (arith, nat_tests, length-map words string_bytes)))
     ]
