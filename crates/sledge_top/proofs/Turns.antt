@@ -1,14 +1,13 @@
 -- One worker that claims and runs all epochs, one after the other.
 use Rattle.std.specs.Prelude.{slice_get, slice_index_or, nat_lt, nat_le, if◌then◌else◌}
 use Rattle.std.specs.Option.{option_map_or}
-use Rattle.std.proofs.Common.{◌≡◌, ℕ, zero, suc, ◌+◌, ◌<◌, ◌≤◌, Bool, true, false, List, [], ◌∷◌, ◌++◌, length, Option, Some, None, All, refl, sym, ap, subst, ◌∙◌, append_assoc, arith}
+use Rattle.std.proofs.Common.{◌≡◌, ℕ, zero, suc, ◌+◌, ◌<◌, ◌≤◌, Bool, true, false, List, [], ◌∷◌, ◌++◌, length, Option, Some, None, refl, sym, ap, subst, ◌∙◌, append_assoc, arith}
 use Rattle.std.proofs.lemmas.Bool.Decides.{nat_tests}
 use Rattle.std.proofs.lemmas.Option.{slice_get-get_or}
 use Rattle.epoch_core.specs.declared.event.CoreEvent.{CoreEvent}
 use Rattle.epoch_core.specs.declared.event.CoreEvent.TheVariants.{Claim, Finish, Leave}
 use Rattle.epoch_core.specs.declared.post.Post.{Post}
 use Rattle.epoch_core.specs.declared.post.PostValue.{PostValue}
-use Rattle.epoch_core.specs.declared.seat.Seat.{Seat}
 use Rattle.epoch_core.specs.declared.post.PostValue.TheVariants.{Skipped}
 use Rattle.epoch_core.specs.Posts.{post_of}
 use Rattle.epoch_core.specs.Schedule.{CoreState, start, claim, finish, finished, leave, posted, low_after, after, run_events, HoldsNone}

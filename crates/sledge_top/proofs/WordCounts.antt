@@ -1,5 +1,5 @@
 -- Lists of words with other lengths than those of commands.
-use Rattle.std.proofs.Common.{◌≡◌, ℕ, ◌<◌, ◌≤◌, List, [], ◌∷◌, length, None, refl, arith}
+use Rattle.std.proofs.Common.{◌≡◌, ℕ, ◌<◌, List, [], ◌∷◌, length, None, refl, arith}
 use Rattle.sledge_top.specs.Words.{read_words, read_with_option, read_with_value}
 
 pub fewer_than_6 : (words : List (List ℕ)) → length words < 6 → read_with_value words ≡ None

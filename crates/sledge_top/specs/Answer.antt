@@ -149,3 +149,9 @@ Ends status.NotBuilt defined = ending defined ≡ status.NotBuilt
 abbrev pub text : Result (List ℕ) Status → List ℕ
 text (Ok bytes) = bytes
 text (Err s) = []
+
+-- two lists of words that name one recording and one address have one answer, whatever they say of epochs
+abbrev pub SameAnswer : List (List ℕ) → List (List ℕ) → Type 0
+SameAnswer first second =
+    (files : Files) (recording : List ℕ) (address : ℕ) (m n : Option ℕ)
+    → read_words first ≡ Some (TraceAt recording address m) → read_words second ≡ Some (TraceAt recording address n) → outcome first files ≡ outcome second files

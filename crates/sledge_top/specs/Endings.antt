@@ -1,5 +1,5 @@
 -- What a report says of the recorded end.
-use Rattle.std.specs.Prelude.{ℕ, List, ◌∷◌}
+use Rattle.std.specs.Prelude.{◌∷◌}
 use Rattle.rec_format.specs.declared.recording.Recording.{Recording}
 use Rattle.sledge_top.specs.declared.trace.Ending.{Ending}
 

@@ -3,8 +3,6 @@ use Rattle.std.specs.Prelude.{ℕ, List, [], ◌∷◌, ◌++◌, codes, ⊤}
 use Rattle.std.specs.List.{flat_map}
 use Rattle.std.specs.Fmt.{decimal}
 use Rattle.sl_base.specs.Text.{word_text}
-use Rattle.call_log.specs.declared.entry.End.{End}
-use Rattle.call_log.specs.declared.breaks.Break.{Break}
 use Rattle.call_log.specs.declared.breaks.BreakKind.{BreakKind}
 use Rattle.call_log.specs.declared.breaks.BreakKind.TheVariants as kind
 use Rattle.rec_format.specs.declared.fault.RecCause.{RecCause}

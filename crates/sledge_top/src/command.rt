@@ -6,7 +6,7 @@ ghost use Rattle.sl_base.specs.Written.{Adds, AddsPrefix};
 ghost use Rattle.sledge_top.specs.Status.{fault_line, IsRefusal, IsLaterRefusal};
 ghost use Rattle.sledge_top.specs.Words.{read_words};
 ghost use Rattle.sledge_top.specs.Orders.{order_of, texts, HasEpochs};
-ghost use Rattle.sledge_top.specs.Answer.{Gives, Ends, text, text_of, outcome};
+ghost use Rattle.sledge_top.specs.Answer.{Gives, Ends, text, text_of, outcome, SameAnswer};
 
 use crate::fault_line::write_fault;
 use crate::status::Status;
@@ -113,3 +113,8 @@ pub fn sledge<R: Threads + Sync, S: Store, W: World, O: Sink, E: Sink, G: Gate>(
     let _ = write_fault(err, &status);
     status
 }
+
+/// Words that differ in `--epochs` alone have one answer, whatever the files are.
+pub fn same_answer()
+    ensures { (first second : List (List ℕ)) → SameAnswer first second }
+{}

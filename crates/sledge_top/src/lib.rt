@@ -11,7 +11,7 @@ mod store;
 mod trace;
 mod words;
 
-pub use command::sledge;
+pub use command::{same_answer, sledge};
 pub use fault_line::write_fault;
 pub use status::Status;
 

@@ -201,39 +201,86 @@ fn push_words(out: &mut Vec<u8>, words: &[u32]) -> Result<(), Fail> {
     Ok(())
 }
 
+/// The value of a register: the given one, or that of the opening state.
+fn register(registers: &[(usize, u32)], number: usize) -> u32 {
+    let mut value = if number == 2 { 0x7fff_ffe0 } else { 0 };
+    for (at, given) in registers {
+        if *at == number {
+            value = *given;
+        }
+    }
+    value
+}
+
 /// Adds a checkpoint that lists so many pages.
 fn push_checkpoint(out: &mut Vec<u8>, at: &At<'_>, pages: u32) -> Result<(), Fail> {
     push_words(out, &[at.count, 0, at.pc])?;
-    let mut x = [0; 32];
-    x[2] = 0x7fff_ffe0;
-    for (number, value) in at.registers {
-        x[*number] = *value;
+    for number in 1..32 {
+        push_words(out, &[register(at.registers, number)])?;
     }
-    push_words(out, &x[1..])?;
     push_words(out, &[0x11000, 0x11000, 0, pages])
+}
+
+/// Adds a page, the rest of which is zeros.
+fn push_page(out: &mut Vec<u8>, number: u32, first: &[u8]) -> Result<(), Fail> {
+    push_words(out, &[number])?;
+    out.extend_from_slice(first)?;
+    for _ in first.len()..4096 {
+        out.push(0)?;
+    }
+    Ok(())
+}
+
+/// Adds the image and the numbers of arguments and calls.
+fn push_program(out: &mut Vec<u8>, program: &[u32]) -> Result<(), Fail> {
+    let mut length = 0u32;
+    for _ in program {
+        length = length.wrapping_add(4);
+    }
+    push_words(out, &[0, 0x10000, length])?;
+    push_words(out, program)?;
+    push_words(out, &[0, 0])
+}
+
+/// Adds the checkpoints before the end.
+fn push_checkpoints(out: &mut Vec<u8>, checkpoints: &[At<'_>]) -> Result<(), Fail> {
+    let mut count = 0u32;
+    for _ in checkpoints {
+        count = count.wrapping_add(1);
+    }
+    push_words(out, &[count])?;
+    for checkpoint in checkpoints {
+        push_checkpoint(out, checkpoint, 0)?;
+    }
+    Ok(())
 }
 
 /// The bytes of a recording.
 fn recording_of(alloc: Global, recorded: &Recorded<'_>) -> Result<Vec<u8>, Fail> {
     let mut bytes = b"SLDGREC1".to_vec(alloc)?;
-    push_words(&mut bytes, &[0, 0x10000, 4 * recorded.program.len() as u32])?;
-    push_words(&mut bytes, recorded.program)?;
-    push_words(&mut bytes, &[0, 0, recorded.checkpoints.len() as u32])?;
-    for checkpoint in recorded.checkpoints {
-        push_checkpoint(&mut bytes, checkpoint, 0)?;
-    }
+    push_program(&mut bytes, recorded.program)?;
+    push_checkpoints(&mut bytes, recorded.checkpoints)?;
     push_words(&mut bytes, &recorded.end)?;
-    match &recorded.page {
+    match recorded.page {
         None => push_checkpoint(&mut bytes, &recorded.last, 0)?,
         Some((number, first)) => {
             push_checkpoint(&mut bytes, &recorded.last, 1)?;
-            push_words(&mut bytes, &[*number])?;
-            let start = bytes.len();
-            bytes.resize(start + 4096, 0)?;
-            bytes[start..start + first.len()].copy_from_slice(first);
+            push_page(&mut bytes, number, first)?;
         }
     }
     Ok(bytes)
+}
+
+/// Puts a byte at a place, and gives the one that stood there.
+fn exchange(bytes: &mut Vec<u8>, place: usize, value: u8) -> u8 {
+    match bytes.get_mut(place) {
+        Some(byte) => {
+            let before = *byte;
+            *byte = value;
+            before
+        }
+        None => value,
+    }
 }
 
 /// Loads 5 into a0 and exits.
@@ -266,6 +313,51 @@ fn exits<'a>(checkpoints: &'a [At<'a>]) -> Recorded<'a> {
     }
 }
 
+/// The recording of `LOOPS`.
+fn loops<'a>() -> Recorded<'a> {
+    Recorded {
+        program: &LOOPS,
+        checkpoints: &[],
+        end: [0, 3000],
+        last: At {
+            count: 4003,
+            pc: 0x10020,
+            registers: &[(10, 3000), (17, 0x5d)],
+        },
+        page: None,
+    }
+}
+
+/// The recording of a word that is no instruction.
+fn illegal<'a>() -> Recorded<'a> {
+    Recorded {
+        program: &[0],
+        checkpoints: &[],
+        end: [1, 2],
+        last: At {
+            count: 0,
+            pc: 0x10000,
+            registers: &[],
+        },
+        page: None,
+    }
+}
+
+/// The recording of two turns of an endless loop.
+fn stopped<'a>() -> Recorded<'a> {
+    Recorded {
+        program: &[0x6f],
+        checkpoints: &[],
+        end: [2, 0],
+        last: At {
+            count: 2,
+            pc: 0x10000,
+            registers: &[],
+        },
+        page: None,
+    }
+}
+
 /// The checkpoint of `EXITS` before its last instruction.
 const BEFORE_THE_EXIT: [At<'static>; 1] = [At {
     count: 2,
@@ -291,6 +383,47 @@ fn done<R: Threads + Sync>(
     Ok((status.code(), out, err))
 }
 
+/// Whether a command over a recording writes this report.
+fn reports_so<R: Threads + Sync>(
+    rt: &R,
+    alloc: Global,
+    recorded: &Recorded<'_>,
+    text: &str,
+    report: &str,
+) -> Result<bool, Fail> {
+    let bytes = recording_of(alloc, recorded)?;
+    let (code, out, err) = done(rt, alloc, &bytes, text)?;
+    Ok(code == 0 && out.bytes() == report.as_bytes() && err.bytes().is_empty())
+}
+
+/// Whether a command over a recording of two instructions, which ends after one, writes this line and no report.
+fn breaks_so<R: Threads + Sync>(
+    rt: &R,
+    alloc: Global,
+    program: &[u32],
+    end: [u32; 2],
+    page: Option<(u32, &[u8])>,
+    line: &str,
+) -> Result<bool, Fail> {
+    let last = At {
+        count: 1,
+        pc: 0x10004,
+        registers: &[],
+    };
+    let bytes = recording_of(
+        alloc,
+        &Recorded {
+            program,
+            checkpoints: &[],
+            end,
+            last,
+            page,
+        },
+    )?;
+    let (_, out, err) = done(rt, alloc, &bytes, "trace a.rec at 10000")?;
+    Ok(out.bytes().is_empty() && err.bytes() == line.as_bytes())
+}
+
 /// The report of `EXITS` with its one record.
 const EXITS_REPORT: &str =
     "1,all,2,0,0x00010008,Done,0x00000005\nend,exited,3,,0x0001000c,,0x00000005\nregs,x,,,,,x2=0x7fffffe0 x10=0x00000005 x17=0x0000005d\n";
@@ -300,103 +433,66 @@ fn reports(rt: HostRuntime) -> Result<(), Fail> {
     let alloc = rt.alloc();
     let exits_alone = exits(&[]);
     let exits_in_two = exits(&BEFORE_THE_EXIT);
-    let loops = Recorded {
-        program: &LOOPS,
-        checkpoints: &[],
-        end: [0, 3000],
-        last: At {
-            count: 4003,
-            pc: 0x10020,
-            registers: &[(10, 3000), (17, 0x5d)],
-        },
-        page: None,
-    };
-    let illegal = Recorded {
-        program: &[0],
-        checkpoints: &[],
-        end: [1, 2],
-        last: At {
-            count: 0,
-            pc: 0x10000,
-            registers: &[],
-        },
-        page: None,
-    };
-    let stopped = Recorded {
-        program: &[0x6f],
-        checkpoints: &[],
-        end: [2, 0],
-        last: At {
-            count: 2,
-            pc: 0x10000,
-            registers: &[],
-        },
-        page: None,
-    };
-    // Stores t0 at 0x10000, over its first instruction, and traps at an EBREAK.
-    let stores = Recorded {
-        program: &[0x0001_02b7, 0x0052_a023, 0x0010_0073],
-        checkpoints: &[],
-        end: [1, 3],
-        last: At {
-            count: 2,
-            pc: 0x10008,
-            registers: &[(5, 0x10000)],
-        },
-        page: Some((16, &[0, 0, 1, 0, 0x23, 0xa0, 0x52, 0, 0x73, 0, 0x10, 0])),
-    };
+    let illegal = illegal();
     assert_eq!(rt; recording_of(alloc, &exits_alone)?.len(), 204);
     assert_eq!(rt; recording_of(alloc, &exits_in_two)?.len(), 356);
     assert_eq!(rt; recording_of(alloc, &illegal)?.len(), 196);
-    for (recorded, text, report) in [
-        (&exits_alone, "trace a.rec at 10008", EXITS_REPORT),
-        (&exits_in_two, "trace a.rec at 10008", EXITS_REPORT),
-        (
-            &exits_in_two,
-            "trace a.rec at 10008 --epochs 1",
-            EXITS_REPORT,
-        ),
-        (
-            &exits_in_two,
-            "trace --epochs=2 a.rec at 0x10008",
-            EXITS_REPORT,
-        ),
-        (
-            &exits_in_two,
-            "trace a.rec at 10008 --epochs 4096",
-            EXITS_REPORT,
-        ),
-        (
-            &exits_alone,
-            "trace a.rec at 0x1000c",
-            "end,exited,3,,0x0001000c,,0x00000005\nregs,x,,,,,x2=0x7fffffe0 x10=0x00000005 x17=0x0000005d\n",
-        ),
-        (
-            &loops,
-            "trace a.rec at 10018",
-            "1,all,4001,0,0x00010018,Done,0x00000bb8\nend,exited,4003,,0x00010020,,0x00000bb8\nregs,x,,,,,x2=0x7fffffe0 x10=0x00000bb8 x17=0x0000005d\n",
-        ),
-        (
-            &illegal,
-            "trace a.rec at 10000",
-            "1,all,0,0,0x00010000,Done,0x00000000\nend,trapped,0,,0x00010000,,0x00000002\nregs,x,,,,,x2=0x7fffffe0\n",
-        ),
-        (
-            &stopped,
-            "trace a.rec at 10000",
-            "1,all,0,0,0x00010000,Done,0x00000000\n1,all,1,0,0x00010000,Done,0x00000000\nend,stopped,2,,0x00010000,,0x00000000\nregs,x,,,,,x2=0x7fffffe0\n",
-        ),
-        (
-            &stores,
-            "trace a.rec at 10004",
-            "1,all,1,0,0x00010004,Done,0x00000000\nend,trapped,2,,0x00010008,,0x00000003\nregs,x,,,,,x2=0x7fffffe0 x5=0x00010000\n",
-        ),
+    for text in [
+        "trace a.rec at 10008",
+        "trace a.rec at 10008 --epochs 1",
+        "trace --epochs=2 a.rec at 0x10008",
+        "trace a.rec at 10008 --epochs 4096",
     ] {
-        let (code, out, err) = done(&rt, alloc, &recording_of(alloc, recorded)?, text)?;
-        assert_eq!(rt; code, 0, "{text}");
-        assert_eq!(rt; out.bytes(), report.as_bytes(), "{text}");
-        assert!(rt; err.bytes().is_empty(), "{text}");
+        assert!(rt;
+            reports_so(&rt, alloc, &exits_alone, text, EXITS_REPORT)?,
+            "{text}"
+        );
+        assert!(rt;
+            reports_so(&rt, alloc, &exits_in_two, text, EXITS_REPORT)?,
+            "{text}"
+        );
     }
+    let nowhere =
+        "end,exited,3,,0x0001000c,,0x00000005\nregs,x,,,,,x2=0x7fffffe0 x10=0x00000005 x17=0x0000005d\n";
+    assert!(rt; reports_so(&rt, alloc, &exits_in_two, "trace a.rec at 0x1000c", nowhere)?);
+    let looped =
+        "1,all,4001,0,0x00010018,Done,0x00000bb8\nend,exited,4003,,0x00010020,,0x00000bb8\nregs,x,,,,,x2=0x7fffffe0 x10=0x00000bb8 x17=0x0000005d\n";
+    assert!(rt; reports_so(&rt, alloc, &loops(), "trace a.rec at 10018", looped)?);
+    let trapped =
+        "1,all,0,0,0x00010000,Done,0x00000000\nend,trapped,0,,0x00010000,,0x00000002\nregs,x,,,,,x2=0x7fffffe0\n";
+    assert!(rt; reports_so(&rt, alloc, &illegal, "trace a.rec at 10000", trapped)?);
+    let twice =
+        "1,all,0,0,0x00010000,Done,0x00000000\n1,all,1,0,0x00010000,Done,0x00000000\nend,stopped,2,,0x00010000,,0x00000000\nregs,x,,,,,x2=0x7fffffe0\n";
+    assert!(rt; reports_so(&rt, alloc, &stopped(), "trace a.rec at 10000", twice)?);
+    Ok(())
+}
+
+/// A page that a program stored into is listed at its end.
+#[test]
+fn listed_page(rt: HostRuntime) -> Result<(), Fail> {
+    let alloc = rt.alloc();
+    // Stores t0 at 0x10000, over its first instruction, and traps at an EBREAK.
+    let program = [0x0001_02b7, 0x0052_a023, 0x0010_0073];
+    let mut bytes = b"SLDGREC1".to_vec(alloc)?;
+    push_program(&mut bytes, &program)?;
+    push_words(&mut bytes, &[0, 1, 3])?;
+    let last = At {
+        count: 2,
+        pc: 0x10008,
+        registers: &[(5, 0x10000)],
+    };
+    push_checkpoint(&mut bytes, &last, 1)?;
+    push_page(
+        &mut bytes,
+        16,
+        &[0, 0, 1, 0, 0x23, 0xa0, 0x52, 0, 0x73, 0, 0x10, 0],
+    )?;
+    let (code, out, err) = done(&rt, alloc, &bytes, "trace a.rec at 10004")?;
+    assert_eq!(rt; code, 0);
+    assert!(rt; err.bytes().is_empty());
+    let report =
+        "1,all,1,0,0x00010004,Done,0x00000000\nend,trapped,2,,0x00010008,,0x00000003\nregs,x,,,,,x2=0x7fffffe0 x5=0x00010000\n";
+    assert_eq!(rt; out.bytes(), report.as_bytes());
     Ok(())
 }
 
@@ -488,8 +584,7 @@ fn recordings_that_lie(rt: HostRuntime) -> Result<(), Fail> {
             "checkpoint 2 differs at count 3, part 0, at 0x00000000: recorded 0x00010008, replayed 0x0001000c",
         ),
     ] {
-        let saved = bytes[place];
-        bytes[place] = value;
+        let saved = exchange(&mut bytes, place, value);
         for text in ["trace a.rec at 10008", "trace a.rec at 10008 --epochs 1"] {
             let (ended, out, err) = done(&rt, alloc, &bytes, text)?;
             assert_eq!(rt; ended, code, "{place} {value}");
@@ -500,7 +595,7 @@ fn recordings_that_lie(rt: HostRuntime) -> Result<(), Fail> {
             );
             assert!(rt; out.bytes().is_empty(), "{place} {value}");
         }
-        bytes[place] = saved;
+        exchange(&mut bytes, place, saved);
     }
     bytes.push(0)?;
     let (code, _, err) = done(&rt, alloc, &bytes, "trace a.rec at 10008")?;
@@ -516,73 +611,27 @@ fn recordings_that_lie(rt: HostRuntime) -> Result<(), Fail> {
 #[test]
 fn broken_replays(rt: HostRuntime) -> Result<(), Fail> {
     let alloc = rt.alloc();
-    for (program, end, count, pc, page, line) in [
-        // Stores the stack pointer at itself, which no checkpoint lists.
-        (
-            [0x0021_2023, 0x0010_0073],
-            [1, 3],
-            1,
-            0x10004,
-            None,
-            "checkpoint 1 differs at count 1, part 35, at 0x7fffffe0: recorded 0x00000000, replayed 0x000000e0",
-        ),
-        // Lists a page that is not mapped.
-        (
-            [0x0000_0013, 0x0010_0073],
-            [1, 3],
-            1,
-            0x10004,
-            Some((5, [1].as_slice())),
-            "checkpoint 1 differs at count 1, part 36, at 0x00005000: recorded 0x00000001, replayed 0x00000000",
-        ),
-        // Makes a call that is not recorded.
-        (
-            [0x0000_0073, 0x0010_0073],
-            [1, 3],
-            1,
-            0x10004,
-            None,
-            "replay broken at count 0: call 0 is not recorded",
-        ),
-        // Traps otherwise than recorded.
-        (
-            [0x0000_0013, 0x0010_0073],
-            [1, 2],
-            1,
-            0x10004,
-            None,
-            "replay broken at count 1: end is trapped 0x00000003, recorded trapped 0x00000002",
-        ),
-        // Runs where it should have exited.
-        (
-            [0x0000_0013, 0x0010_0073],
-            [0, 7],
-            1,
-            0x10004,
-            None,
-            "replay broken at count 1: end is stopped 0x00000000, recorded exited 0x00000007",
-        ),
-    ] {
-        let recorded = Recorded {
-            program: &program,
-            checkpoints: &[],
-            end,
-            last: At {
-                count,
-                pc,
-                registers: &[],
-            },
-            page,
-        };
-        let bytes = recording_of(alloc, &recorded)?;
-        let (_, out, err) = done(&rt, alloc, &bytes, "trace a.rec at 10000")?;
-        assert_eq!(rt;
-            err.bytes(),
-            format!(in alloc; "sledge: {line}\n")?.as_bytes(),
-            "{line}"
-        );
-        assert!(rt; out.bytes().is_empty(), "{line}");
-    }
+    // Stores the stack pointer at itself, which no checkpoint lists.
+    let stores = [0x0021_2023, 0x0010_0073];
+    let line =
+        "sledge: checkpoint 1 differs at count 1, part 35, at 0x7fffffe0: recorded 0x00000000, replayed 0x000000e0\n";
+    assert!(rt; breaks_so(&rt, alloc, &stores, [1, 3], None, line)?);
+    // Lists a page that is not mapped.
+    let passes = [0x0000_0013, 0x0010_0073];
+    let line =
+        "sledge: checkpoint 1 differs at count 1, part 36, at 0x00005000: recorded 0x00000001, replayed 0x00000000\n";
+    assert!(rt; breaks_so(&rt, alloc, &passes, [1, 3], Some((5, &[1])), line)?);
+    // Makes a call that is not recorded.
+    let calls = [0x0000_0073, 0x0010_0073];
+    let line = "sledge: replay broken at count 0: call 0 is not recorded\n";
+    assert!(rt; breaks_so(&rt, alloc, &calls, [1, 3], None, line)?);
+    // Traps otherwise than recorded, and runs where it should have exited.
+    let line =
+        "sledge: replay broken at count 1: end is trapped 0x00000003, recorded trapped 0x00000002\n";
+    assert!(rt; breaks_so(&rt, alloc, &passes, [1, 2], None, line)?);
+    let line =
+        "sledge: replay broken at count 1: end is stopped 0x00000000, recorded exited 0x00000007\n";
+    assert!(rt; breaks_so(&rt, alloc, &passes, [0, 7], None, line)?);
     Ok(())
 }
 

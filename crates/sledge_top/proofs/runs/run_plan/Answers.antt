@@ -1,4 +1,4 @@
-use Rattle.std.proofs.Common.{◌≡◌, ℕ, length, subst, sym, ap, ◌∙◌, arith}
+use Rattle.std.proofs.Common.{◌≡◌, length, subst, sym, ap, ◌∙◌}
 use Rattle.std.proofs.lemmas.List.FromFn.{length-map-range_with_len}
 use Rattle.epoch_run.specs.Records.{emit_at}
 use Rattle.epoch_run.specs.EpochLaws.{epochs_of}
@@ -6,7 +6,6 @@ use Rattle.epoch_run.specs.Plans.{value_at, values_of}
 use Rattle.epoch_core.specs.Posts.{Posted}
 use Rattle.epoch_core.specs.Schedule.{start, run_events, all_posts}
 use Rattle.ordered_merge.specs.Merged.{Tells, merged}
-use Rattle.sledge_top.specs.Epochs.{one_after_the_other}
 use Rattle.sledge_top.proofs.Turns.{IsDone, one_does_all}
 use Rattle.sledge_top.proofs.WholeRun.{merged_is_run}
 use Rattle.sledge_top.proofs.runs.run_plan.Goals as goal

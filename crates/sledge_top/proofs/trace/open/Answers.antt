@@ -1,4 +1,4 @@
-use Rattle.std.proofs.Common.{◌≡◌, ℕ, List, [], Ok, ap, sym, subst, ◌∙◌}
+use Rattle.std.proofs.Common.{ℕ, List, [], Ok, ap, sym, subst, ◌∙◌}
 use Rattle.elf_image.specs.Flat.{flat_image, one_segment}
 use Rattle.replay.specs.Opening.{opening}
 use Rattle.sledge_top.specs.Answer.{◌>>=◌, image_of}

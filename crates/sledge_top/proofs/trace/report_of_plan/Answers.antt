@@ -1,4 +1,4 @@
-use Rattle.std.proofs.Common.{◌≡◌, ◌++◌, List, Ok, ap, sym, subst, ◌∙◌}
+use Rattle.std.proofs.Common.{◌++◌, List, Ok, ap, sym, subst, ◌∙◌}
 use Rattle.call_log.specs.declared.breaks.Break.{Break}
 use Rattle.tracer_lang.specs.declared.record.Record.{Record}
 use Rattle.epoch_run.specs.Records.{emit_at}
