@@ -162,3 +162,159 @@ fn posts_of_two_workers(rt: HostRuntime) -> Result<(), Fail> {
     posts_are_whole();
     Ok(())
 }
+
+/// What a worker has, worked out plainly.
+#[derive(Drop)]
+struct PlainSeat {
+    held: Option<u32>,
+    has_left: bool,
+    tray: Vec<(u32, Told)>,
+}
+
+/// Two workers and two epochs, the first of which breaks, worked out plainly.
+#[derive(Drop)]
+struct PlainCore {
+    next: u32,
+    low: Option<u32>,
+    first: PlainSeat,
+    second: PlainSeat,
+}
+
+impl PlainCore {
+    fn new(alloc: Global) -> PlainCore {
+        PlainCore {
+            next: 0,
+            low: None,
+            first: PlainSeat {
+                held: None,
+                has_left: false,
+                tray: Vec::new(alloc),
+            },
+            second: PlainSeat {
+                held: None,
+                has_left: false,
+                tray: Vec::new(alloc),
+            },
+        }
+    }
+
+    fn seat(&mut self, worker: u32) -> &mut PlainSeat {
+        if worker == 0 {
+            &mut self.first
+        } else {
+            &mut self.second
+        }
+    }
+
+    /// An idle worker draws the next number, and holds it or leaves.
+    fn draw(&mut self, worker: u32, leaves: bool) {
+        let next = self.next;
+        let seat = self.seat(worker);
+        if seat.has_left || seat.held.is_some() || leaves == (next < 2) {
+            return;
+        }
+        if leaves {
+            seat.has_left = true;
+        } else {
+            seat.held = Some(next);
+        }
+        self.next = next.wrapping_add(1);
+    }
+
+    /// A worker posts the epoch that it holds.
+    fn post(&mut self, worker: u32, told: Told) -> Result<(), Fail> {
+        let seat = self.seat(worker);
+        if let Some(epoch) = seat.held {
+            seat.tray.push((epoch, told))?;
+            seat.held = None;
+        }
+        Ok(())
+    }
+
+    fn finish(&mut self, worker: u32) -> Result<(), Fail> {
+        match self.seat(worker).held {
+            Some(0) => {
+                self.low = Some(0);
+                self.post(worker, Told::Break(FIRST))
+            }
+            _ => self.post(worker, Told::Word(5)),
+        }
+    }
+
+    fn skip(&mut self, worker: u32) -> Result<(), Fail> {
+        match (self.low, self.seat(worker).held) {
+            (Some(0), Some(1)) => self.post(worker, Told::Below(0)),
+            _ => Ok(()),
+        }
+    }
+}
+
+/// What a tray says of its epochs.
+fn told_by_all(alloc: Global, tray: &[Post]) -> Result<Vec<(u32, Told)>, Fail> {
+    let mut posts = Vec::new(alloc);
+    for post in tray {
+        posts.push(told_by(post))?;
+    }
+    Ok(posts)
+}
+
+/// Whether the trays of a list of events, which is told by its digits, are those that were worked out plainly. The lowest
+/// bit of a digit is the worker.
+fn trays_agree(alloc: Global, length: u32, digits: u32) -> Result<bool, Fail> {
+    let mut plain = PlainCore::new(alloc);
+    let mut events = Vec::new(alloc);
+    let mut rest = digits;
+    for _ in 0..length {
+        let worker = rest % 2;
+        match rest / 2 % 4 {
+            0 => {
+                plain.draw(worker, false);
+                events.push(CoreEvent::Claim(worker))?;
+            }
+            1 => {
+                plain.finish(worker)?;
+                events.push(CoreEvent::Finish(worker))?;
+            }
+            2 => {
+                plain.skip(worker)?;
+                events.push(CoreEvent::Skip(worker))?;
+            }
+            _ => {
+                plain.draw(worker, true);
+                events.push(CoreEvent::Leave(worker))?;
+            }
+        }
+        rest /= 8;
+    }
+    let mut runs = ListedRuns {
+        listed: Vec::from_slice(alloc, &FIRST_BREAKS)?,
+    };
+    let trays = run_schedule(alloc, &mut runs, 2, 2, &events)?;
+    let [first, second] = trays.as_slice() else {
+        return Ok(false);
+    };
+    Ok(
+        told_by_all(alloc, first.as_slice())?.as_slice() == plain.first.tray.as_slice()
+            && told_by_all(alloc, second.as_slice())?.as_slice() == plain.second.tray.as_slice(),
+    )
+}
+
+/// Every list of up to six events of two workers.
+#[test]
+fn every_short_schedule(rt: HostRuntime) -> Result<(), Fail> {
+    let alloc = rt.alloc();
+    for (length, count) in [
+        (0, 1),
+        (1, 8),
+        (2, 64),
+        (3, 512),
+        (4, 4096),
+        (5, 32_768),
+        (6, 262_144u32),
+    ] {
+        for digits in 0..count {
+            assert!(rt; trays_agree(alloc, length, digits)?, "{length} {digits}");
+        }
+    }
+    Ok(())
+}

@@ -1,7 +1,10 @@
 //! Commands over stores in memory, with outputs that were worked by hand.
 
 use crate::sledge;
-use sl_base::{GetFault, MemorySink, MemoryStore, MemoryWorld, NoGate, PutFault, Store};
+use sl_base::{
+    GetFault, MemorySink, MemoryStore, MemoryWorld, NoGate, PutFault, Store, decimal_text,
+    word_text,
+};
 use std::alloc::Global;
 use std::test::Fail;
 use std::thread::Threads;
@@ -221,14 +224,19 @@ fn push_checkpoint(out: &mut Vec<u8>, at: &At<'_>, pages: u32) -> Result<(), Fai
     push_words(out, &[0x11000, 0x11000, 0, pages])
 }
 
+/// Adds so many zeros.
+fn push_zeros(out: &mut Vec<u8>, count: usize) -> Result<(), Fail> {
+    for _ in 0..count {
+        out.push(0)?;
+    }
+    Ok(())
+}
+
 /// Adds a page, the rest of which is zeros.
 fn push_page(out: &mut Vec<u8>, number: u32, first: &[u8]) -> Result<(), Fail> {
     push_words(out, &[number])?;
     out.extend_from_slice(first)?;
-    for _ in first.len()..4096 {
-        out.push(0)?;
-    }
-    Ok(())
+    push_zeros(out, 4096usize.saturating_sub(first.len()))
 }
 
 /// Adds the image and the numbers of arguments and calls.
@@ -604,6 +612,120 @@ fn recordings_that_lie(rt: HostRuntime) -> Result<(), Fail> {
         err.bytes(),
         b"sledge: recording broken at 356: Trailing\n".as_slice()
     );
+    Ok(())
+}
+
+/// Adds the line of a register that is recorded with its lowest bit turned, at checkpoint 1 and count 2.
+fn push_register_line(out: &mut Vec<u8>, number: u64, replayed: u32) -> Result<(), Fail> {
+    out.extend_from_slice(b"sledge: checkpoint 1 differs at count 2, part ")?;
+    out.extend_from_slice(decimal_text(number).as_bytes())?;
+    out.extend_from_slice(b", at 0x00000000: recorded ")?;
+    out.extend_from_slice(word_text(replayed ^ 1).as_bytes())?;
+    out.extend_from_slice(b", replayed ")?;
+    out.extend_from_slice(word_text(replayed).as_bytes())?;
+    out.extend_from_slice(b"\n")?;
+    Ok(())
+}
+
+/// Each register of the first checkpoint in turn is another one than the program's.
+#[test]
+fn each_register(rt: HostRuntime) -> Result<(), Fail> {
+    let alloc = rt.alloc();
+    let mut bytes = recording_of(alloc, &exits(&BEFORE_THE_EXIT))?;
+    for number in 1..32u32 {
+        let replayed = match number {
+            2 => 0x7fff_ffe0,
+            10 => 5,
+            17 => 0x5d,
+            _ => 0u32,
+        };
+        // x1 stands at 56.
+        let place = 52 + 4 * number as usize;
+        let [low, ..] = u32::to_le_bytes(replayed);
+        exchange(&mut bytes, place, low ^ 1);
+        let mut line = Vec::new(alloc);
+        push_register_line(&mut line, u64::from(number), replayed)?;
+        let (code, out, err) = done(&rt, alloc, &bytes, "trace a.rec at 10008")?;
+        assert_eq!(rt; code, 9);
+        assert_eq!(rt; err.bytes(), line.as_slice());
+        assert!(rt; out.bytes().is_empty());
+        exchange(&mut bytes, place, low);
+    }
+    Ok(())
+}
+
+/// The recording of a program that stores a word at 0x7fffffe4, with a checkpoint behind each instruction. The one behind
+/// the store lists the page, with this byte as the word's lowest; x6 before the store and the end's value are these.
+fn stored(alloc: Global, byte: u8, before: u32, end: u32) -> Result<Vec<u8>, Fail> {
+    let loaded = [(6, 0x0102_0304)];
+    let at_exit = [(6, 0x0102_0304), (17, 0x5d)];
+    let mut bytes = b"SLDGREC1".to_vec(alloc)?;
+    // lui t1, 0x1020; addi t1, t1, 0x304; sw t1, 4(sp); li a7, 93; ecall
+    push_program(
+        &mut bytes,
+        &[0x0102_0337, 0x3043_0313, 0x0061_2223, 0x05d0_0893, 0x73],
+    )?;
+    push_words(&mut bytes, &[4])?;
+    push_at(&mut bytes, 1, &[(6, 0x0102_0000)], 0)?;
+    push_at(&mut bytes, 2, &[(6, before)], 0)?;
+    push_at(&mut bytes, 3, &loaded, 1)?;
+    push_words(&mut bytes, &[0x7_ffff])?;
+    push_zeros(&mut bytes, 0xfe4)?;
+    bytes.extend_from_slice(&[byte, 3, 2, 1])?;
+    push_zeros(&mut bytes, 24)?;
+    push_at(&mut bytes, 4, &at_exit, 0)?;
+    push_words(&mut bytes, &[0, end])?;
+    push_at(&mut bytes, 5, &at_exit, 0)?;
+    Ok(bytes)
+}
+
+/// Adds the checkpoint at a count of a program that goes straight on.
+fn push_at(
+    out: &mut Vec<u8>,
+    count: u32,
+    registers: &[(usize, u32)],
+    pages: u32,
+) -> Result<(), Fail> {
+    let pc = 0x10000u32.wrapping_add(count.wrapping_mul(4));
+    push_checkpoint(
+        out,
+        &At {
+            count,
+            pc,
+            registers,
+        },
+        pages,
+    )
+}
+
+/// Memory and registers of many checkpoints, in one epoch, in two and in five.
+#[test]
+fn cuttings(rt: HostRuntime) -> Result<(), Fail> {
+    let alloc = rt.alloc();
+    let right = stored(alloc, 4, 0x0102_0304, 0)?;
+    let report =
+        "1,all,3,0,0x0001000c,Done,0x00000000\nend,exited,5,,0x00010014,,0x00000000\nregs,x,,,,,x2=0x7fffffe0 x6=0x01020304 x17=0x0000005d\n";
+    let other_byte = stored(alloc, 5, 0x0102_0304, 0)?;
+    let byte_line =
+        "sledge: checkpoint 3 differs at count 3, part 35, at 0x7fffffe4: recorded 0x00000005, replayed 0x00000004\n";
+    let other_register = stored(alloc, 4, 0x0102_0305, 9)?;
+    let register_line =
+        "sledge: checkpoint 2 differs at count 2, part 6, at 0x00000000: recorded 0x01020305, replayed 0x01020304\n";
+    for text in [
+        "trace a.rec at 1000c --epochs 1",
+        "trace a.rec at 1000c --epochs 2",
+        "trace a.rec at 1000c",
+    ] {
+        let (code, out, _) = done(&rt, alloc, &right, text)?;
+        assert_eq!(rt; code, 0, "{text}");
+        assert_eq!(rt; out.bytes(), report.as_bytes(), "{text}");
+        let (code, out, err) = done(&rt, alloc, &other_byte, text)?;
+        assert_eq!(rt; (code, out.bytes().len()), (9, 0), "{text}");
+        assert_eq!(rt; err.bytes(), byte_line.as_bytes(), "{text}");
+        let (code, out, err) = done(&rt, alloc, &other_register, text)?;
+        assert_eq!(rt; (code, out.bytes().len()), (9, 0), "{text}");
+        assert_eq!(rt; err.bytes(), register_line.as_bytes(), "{text}");
+    }
     Ok(())
 }
 
