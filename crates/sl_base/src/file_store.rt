@@ -4,15 +4,12 @@ ghost use Rattle.std.specs.Prelude.{◌≡◌};
 
 use crate::store::{GetFault, PutFault, Store};
 use std::alloc::Global;
-use std::fs::{File, OpenFile};
+use std::fs::{File, OpenFile, OpenOptions, Permissions};
 use std::io::{ErrorKind, Read, Write};
 use std::marker::Model;
 use std::path::{Path, PathBuf};
 use std::rt::Files;
 use std::{fs, io};
-
-/// How many names are tried for a new file.
-const TRIES: u32 = 100;
 
 /// The files of a file system, by their paths. It counts each failure, and tells nothing of what they hold.
 #[derive(Drop)]
@@ -82,25 +79,46 @@ fn read_file<F: Files>(files: &F, alloc: Global, name: &str, limit: u64) -> io::
     Ok(bytes)
 }
 
-/// Writes a new file beside the name, whole, and renames it over the name, so that the name has the old bytes or the
-/// new ones at each moment. Where a step fails, the new file is removed again. A folder or a device is not replaced.
-fn replace_file<F: Files>(files: &F, alloc: Global, name: &str, bytes: &[u8]) -> io::Result<()> {
-    if let Ok(found) = fs::metadata(files, name)
-        && !found.is_file()
-    {
+/// The permissions of the file that a name has, and `None` where no file has it. What is no file, or may not be
+/// written, is refused, since it is not to be replaced.
+fn replaced_permissions<F: Files>(files: &F, name: &str) -> io::Result<Option<Permissions>> {
+    let found = match fs::metadata(files, name) {
+        Ok(found) => found,
+        Err(error) if error.kind() == ErrorKind::NotFound => return Ok(None),
+        Err(error) => return Err(error),
+    };
+    if !found.is_file() {
         return Err(io::Error::from(ErrorKind::InvalidInput));
     }
+    let permissions = found.permissions();
+    if permissions.readonly() {
+        return Err(io::Error::from(ErrorKind::PermissionDenied));
+    }
+    OpenOptions::new().write(true).open(files, name)?;
+    Ok(Some(permissions))
+}
+
+/// Writes a new file beside the name, whole, and renames it over the name, so that the name has the old bytes or the
+/// new ones at each moment. The new file has the permissions of the one that it replaces. Where a step fails, it is
+/// removed again.
+fn replace_file<F: Files>(files: &F, alloc: Global, name: &str, bytes: &[u8]) -> io::Result<()> {
+    let permissions = replaced_permissions(files, name)?;
     let (new, file) = create_beside(files, alloc, name)?;
-    let done = write_whole(file, bytes).and_then(|()| fs::rename(files, new.as_path(), name));
+    let done = write_whole(file, permissions, bytes).and_then(|()| fs::rename(
+        files,
+        new.as_path(),
+        name,
+    ));
     if done.is_err() {
         let _ = fs::remove_file(files, new.as_path());
     }
     done
 }
 
-/// Makes a file in the folder of the name that was not there before.
+/// Makes a file in the folder of the name that was not there before, with the first number that is free: files that a
+/// crash left behind stand in nobody's way.
 fn create_beside<F: Files>(files: &F, alloc: Global, name: &str) -> io::Result<(PathBuf, F::File)> {
-    for number in 0..TRIES {
+    for number in 0..u32::MAX {
         let file_name = format!(in alloc; ".sledge-{number}.new")?;
         let new = Path::new(name).with_file_name(alloc, file_name.as_str())?;
         match File::create_new(files, new.as_path()) {
@@ -115,7 +133,14 @@ fn create_beside<F: Files>(files: &F, alloc: Global, name: &str) -> io::Result<(
     Err(io::Error::from(ErrorKind::AlreadyExists))
 }
 
-fn write_whole<W: Write + OpenFile + Drop>(mut file: W, bytes: &[u8]) -> io::Result<()> {
+fn write_whole<W: Write + OpenFile + Drop>(
+    mut file: W,
+    permissions: Option<Permissions>,
+    bytes: &[u8],
+) -> io::Result<()> {
+    if let Some(permissions) = permissions {
+        file.set_permissions(permissions)?;
+    }
     file.write_all(bytes)?;
     file.sync_all()
 }

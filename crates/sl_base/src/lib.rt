@@ -11,6 +11,7 @@ mod memory_store;
 mod memory_world;
 mod planned_faults;
 mod refused;
+mod retried;
 mod seq;
 mod sink;
 mod std_sink;

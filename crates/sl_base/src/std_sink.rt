@@ -1,13 +1,14 @@
-//! Standard output and standard error, or any other writer of std.
+//! Stdout and stderr, or any other writer of std.
 
 ghost use Rattle.std.specs.Prelude.{◌≡◌};
 
+use crate::retried::write_once;
 use crate::sink::{Sink, SinkFailed};
 use std::io::Write;
 use std::marker::Model;
 
 /// A sink over a writer, as `rt.stdout()` or `rt.stderr()`. It counts each failure, and tells nothing of what was
-/// written. A writer that takes nothing has failed.
+/// written. A writer that takes nothing has failed, and a write that a signal interrupts is tried again.
 #[derive(Drop)]
 pub struct StdSink<W> {
     writer: W,
@@ -39,7 +40,7 @@ impl<W: Write> Sink for StdSink<W> {
     ghost faults = { λ faults. faults };
 
     fn write(&mut self, piece: &[u8]) -> Result<usize, SinkFailed> {
-        match self.writer.write(piece) {
+        match write_once(&mut self.writer, piece) {
             Ok(taken) if taken > 0 => Ok(taken),
             _ => {
                 self.faults = self.faults.saturating_add(1);

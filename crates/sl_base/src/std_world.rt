@@ -1,11 +1,13 @@
-//! The outside as the process has it: standard input, output and error, and the system's random bytes.
+//! The outside as the process has it: stdin, stdout and stderr, and the system's random bytes.
 
-ghost use Rattle.std.specs.Prelude.{◌≡◌, ◌≢◌, ◌≤◌, IfOk, IfSome, IfNone, length, drop};
-ghost use Rattle.sl_base.specs.Faults.{Rose};
-ghost use Rattle.sl_base.specs.World.{IsAsked, IsAnswer, KeepsRest, HasDescriptor, failure, no_descriptor};
+ghost use Rattle.std.specs.Prelude.{◌≡◌, ◌≢◌, ◌≤◌, ◌⊎◌, ◌==◌, IfOk, IfSome, IfNone, length, drop};
+ghost use Rattle.std.specs.Io.KnownBytes.{Consumes};
+ghost use Rattle.sl_base.specs.Faults.{Counts};
+ghost use Rattle.sl_base.specs.World.{IsAsked, IsAnswer, KeepsRest, HasDescriptor, failure, no_descriptor, getrandom_number};
 
 use crate::call::Call;
 use crate::refused::Memory;
+use crate::retried::read_once;
 use crate::world::{FAILURE, READ, WRITE, World};
 use std::alloc::Global;
 use std::fs;
@@ -19,9 +21,9 @@ const MOST_BYTES: usize = 65_536;
 /// Error 9: there is no such descriptor.
 const NO_DESCRIPTOR: u32 = 0xffff_fff7;
 
-/// The world of a process. Descriptor 0 is read from its input by one read, which may give fewer bytes than there is
-/// room. 1 and 2 are written to its output and error output, whole. Random bytes are read from `/dev/urandom`. It
-/// counts each failure, and tells no replies.
+/// The world of a process. Descriptor 0 is read from its stdin by one read, which may give fewer bytes than there is
+/// room. 1 and 2 are written to its stdout and stderr, whole. Random bytes are read from `/dev/urandom`, as many as
+/// there is room. What a signal interrupts is tried again. It counts each failure, and tells no replies.
 #[derive(Drop)]
 pub struct StdWorld<'a, F, I, O, E> {
     files: &'a F,
@@ -79,10 +81,13 @@ impl<F: Files, I: Read, O: Write, E: Write> World for StdWorld<'_, F, I, O, E> {
         ensures range { IsAnswer call.now (length give.now) (length take.old) result }
         ensures rest { KeepsRest call.now result take.old take.new }
 
-        // It doesn't give up by itself, and only other descriptors are unknown.
-        ensures failed { result ≡ failure → Rose self.old self.new }
+        // The count rises by one for a failure, and else stays.
+        ensures counted { Counts (result == failure) self.old self.new }
+
+        // Only other descriptors are unknown, and random bytes fill the room.
         ensures known { HasDescriptor call.now → result ≢ no_descriptor }
         ensures unknown { ¬ HasDescriptor call.now → result ≡ no_descriptor }
+        ensures random { call.now.number ≡ getrandom_number → (result ≡ length take.old) ⊎ (result ≡ failure) }
     {
         let count = match (call.number, call.args[0]) {
             (READ, 0) => read_some(&mut self.input, &mut self.buffer, take),
@@ -90,7 +95,7 @@ impl<F: Files, I: Read, O: Write, E: Write> World for StdWorld<'_, F, I, O, E> {
             (WRITE, 2) => write_whole(&mut self.error_output, give),
             (READ | WRITE, _) => return NO_DESCRIPTOR,
             _ => match fs::open(self.files, "/dev/urandom") {
-                Ok(mut random) => read_some(&mut random, &mut self.buffer, take),
+                Ok(mut random) => read_whole(&mut random, &mut self.buffer, take),
                 Err(_) => None,
             },
         };
@@ -112,9 +117,25 @@ fn read_some<R: Read>(reader: &mut R, buffer: &mut [u8], take: &mut [u8]) -> Opt
     ensures none { IfNone result (take.new ≡ take.old) }
 {
     let room = take.len().min(buffer.len());
-    let count = reader.read(&mut buffer[..room]).ok()?;
+    let count = read_once(reader, &mut buffer[..room]).ok()?;
     take[..count].copy_from_slice(&buffer[..count]);
     Some(count as u32)
+}
+
+/// As many reads as fill the room, and `None` where the reader ends or fails before.
+pub fn read_whole<R: Read>(reader: &mut R, buffer: &mut [u8], take: &mut [u8]) -> Option<u32>
+    requires { length take.old ≤ 65536 }
+    ensures count { IfSome result (λ count. count ≡ length take.old) }
+    ensures bytes { IfSome result (λ _. Consumes (R.remaining reader.old) (R.remaining reader.new) take.new) }
+    ensures none { IfNone result (take.new ≡ take.old) }
+{
+    let room = take.len();
+    if room > buffer.len() {
+        return None;
+    }
+    reader.read_exact(&mut buffer[..room]).ok()?;
+    take.copy_from_slice(&buffer[..room]);
+    Some(room as u32)
 }
 
 fn write_whole<W: Write>(writer: &mut W, bytes: &[u8]) -> Option<u32>

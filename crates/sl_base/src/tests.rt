@@ -2,17 +2,22 @@
 
 ghost use Rattle.std.specs.Prelude.{◌≡◌, ◌+◌, ◌<◌, ◌⊎◌};
 
+use crate::std_world::read_whole;
 use crate::{
     Call, FAILURE, FileStore, GETRANDOM, Gate, GetFault, Memory, MemorySink, MemoryStore,
     MemoryWorld, NoGate, PutFault, READ, Refused, Reply, Seq, Sink, SinkFailed, StdSink, StdWorld,
     Steps, Store, SureSink, SureStore, WRITE, World, decimal_text, word_text, write_all,
 };
 use std::alloc::{AllocError, Global};
-use std::fs;
+use std::fs::Permissions;
+use std::io::{ErrorKind, Read, Write};
 use std::marker::Brand;
 use std::mem::size_of;
+use std::os::unix::fs::PermissionsExt;
+use std::rt::Files;
 use std::sync::ledger::{Blank, Ledger};
 use std::test::Fail;
+use std::{fs, io};
 
 #[test]
 fn numbers_as_text(rt: HostRuntime) {
@@ -208,6 +213,43 @@ fn files_on_a_disk(rt: HostRuntime) -> Result<(), Fail> {
     Ok(())
 }
 
+/// The permissions of a file, without its kind.
+fn mode_of(files: &impl Files, name: &str) -> io::Result<u32> {
+    Ok(fs::metadata(files, name)?.permissions().mode() % 0o1000)
+}
+
+#[test]
+fn files_that_are_replaced(rt: HostRuntime) -> Result<(), Fail> {
+    let alloc = rt.alloc();
+    let _ = fs::remove_dir_all(&rt, "sl_base_modes");
+    fs::create_dir(&rt, "sl_base_modes")?;
+    let mut store = FileStore::new(&rt);
+    // Files that a crash left behind.
+    for number in 0..120 {
+        let left = format!(in alloc; "sl_base_modes/.sledge-{number}.new")?;
+        fs::write(&rt, left.as_str(), b"left")?;
+    }
+    assert!(rt; store.put(alloc, "sl_base_modes/a", b"one").is_ok());
+    for (mode, put, bytes) in [
+        (0o640, Ok(()), b"two".as_slice()),
+        (0o755, Ok(()), b"two"),
+        (0o444, Err(PutFault::Failed), b"one"),
+    ] {
+        fs::write(&rt, "sl_base_modes/a", b"one")?;
+        fs::set_permissions(&rt, "sl_base_modes/a", Permissions::from_mode(mode))?;
+        assert_eq!(rt;
+            store.put(alloc, "sl_base_modes/a", b"two"),
+            put,
+            "{mode:o}"
+        );
+        assert_eq!(rt; mode_of(&rt, "sl_base_modes/a")?, mode);
+        assert_eq!(rt; fs::read(&rt, "sl_base_modes/a")?.as_slice(), bytes);
+    }
+    assert!(rt; fs::read_dir(&rt, "sl_base_modes")?.count() == 121);
+    fs::remove_dir_all(&rt, "sl_base_modes")?;
+    Ok(())
+}
+
 #[test]
 fn the_outside_of_a_process(rt: HostRuntime) -> Result<(), Fail> {
     let alloc = rt.alloc();
@@ -228,9 +270,78 @@ fn the_outside_of_a_process(rt: HostRuntime) -> Result<(), Fail> {
         assert!(rt; number == READ || number == WRITE || number == GETRANDOM);
         assert_eq!(rt; answered(&mut world, number, descriptor), (result, room));
     }
-    assert!(rt; answered(&mut world, GETRANDOM, 0).0 == 3);
+    let mut rooms = [[0; 64]; 2];
+    for room in &mut rooms {
+        let call = Call {
+            number: GETRANDOM,
+            args: [0; 6],
+        };
+        assert_eq!(rt; world.answer(&call, b"", room), 64);
+    }
+    assert!(rt; rooms[0] != rooms[1]);
     drop(world);
     assert!(rt; output.as_slice() == b"four".as_slice());
+    Ok(())
+}
+
+/// A reader and writer that a signal interrupts at each other call, and that moves one byte at each call else.
+#[derive(Drop)]
+struct Interrupted {
+    calls: u64,
+}
+
+impl Interrupted {
+    fn next(&mut self) -> io::Result<()> {
+        self.calls = self.calls.saturating_add(1);
+        if self.calls % 2 == 1 {
+            return Err(io::Error::from(ErrorKind::Interrupted));
+        }
+        Ok(())
+    }
+}
+
+impl Read for Interrupted {
+    fn read(&mut self, buf: &mut [u8]) -> io::Result<usize> {
+        self.next()?;
+        let Some(first) = buf.first_mut() else {
+            return Ok(0);
+        };
+        *first = 7;
+        Ok(1)
+    }
+}
+
+impl Write for Interrupted {
+    fn write(&mut self, buf: &[u8]) -> io::Result<usize> {
+        self.next()?;
+        Ok(buf.len().min(1))
+    }
+
+    fn flush(&mut self) -> io::Result<()> {
+        Ok(())
+    }
+}
+
+#[test]
+fn interruptions(rt: HostRuntime) -> Result<(), Fail> {
+    let new = || Interrupted { calls: 0 };
+    let mut world = StdWorld::new(rt.alloc(), &rt, new(), new(), new())?;
+    for (number, descriptor, result, room) in [
+        (READ, 0, 1, [7, 9, 9]),
+        (WRITE, 1, 4, [9, 9, 9]),
+        (WRITE, 2, 4, [9, 9, 9]),
+    ] {
+        assert!(rt; number == READ || number == WRITE);
+        assert_eq!(rt; answered(&mut world, number, descriptor), (result, room));
+    }
+    let mut room = [9; 3];
+    assert_eq!(rt; read_whole(&mut new(), &mut [0; 4], &mut room), Some(3));
+    assert_eq!(rt; room, [7, 7, 7]);
+    assert_eq!(rt;
+        read_whole(&mut b"ab".as_slice(), &mut [0; 4], &mut room),
+        None
+    );
+    assert!(rt; write_all(&mut StdSink::new(new()), b"four").is_ok());
     Ok(())
 }
 
