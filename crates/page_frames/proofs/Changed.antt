@@ -12,10 +12,10 @@ use Rattle.std.proofs.lemmas.Bool.Decides.{eqb_tells}
 use Rattle.std.proofs.lemmas.Grind.{common_steps}
 use Rattle.sl_model.specs.Pages.{Pages, IsPage, put_bytes, set_bytes}
 use Rattle.sl_model.specs.PagesLaws.{set_bytes-in_page, IsPage-put_bytes}
-use Rattle.sl_model.specs.Marks.{PROGRAM_PAGES}
+use Rattle.sl_model.specs.declared.layout.TheConstants.{PROGRAM_PAGES, MOST_PAGES}
 use Rattle.page_frames.specs.declared.frame.Frame.{Frame}
 use Rattle.page_frames.specs.declared.frames.Frames.TheInside.{Inside}
-use Rattle.page_frames.specs.MarkedPages.{mark, mark_bytes, with_bytes, MOST_PAGES}
+use Rattle.page_frames.specs.MarkedPages.{mark, mark_bytes, with_bytes}
 use Rattle.page_frames.specs.Fields.{AreFields, IsPlacing, Marks, place_of, pages_of, marked_pages_of}
 use Rattle.page_frames.proofs.Views.{get-pages_of}
 use Rattle.page_frames.proofs.Kept.{tie}

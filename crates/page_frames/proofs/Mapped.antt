@@ -11,10 +11,10 @@ use Rattle.std.proofs.lemmas.List.{length-replicate}
 use Rattle.std.proofs.lemmas.List.Elements.{All-replicate}
 use Rattle.sl_model.specs.Pages.{IsPage, bytes_at}
 use Rattle.sl_model.specs.PagesLaws.{insert-same, AreWhole, is_some-bytes_at-in_page, is_some-bytes_at-add}
-use Rattle.sl_model.specs.Marks.{PROGRAM_PAGES}
+use Rattle.sl_model.specs.declared.layout.TheConstants.{PROGRAM_PAGES, MOST_PAGES}
 use Rattle.page_frames.specs.declared.frame.Frame.{Frame}
 use Rattle.page_frames.specs.declared.frames.Frames.TheInside.{Inside}
-use Rattle.page_frames.specs.MarkedPages.{MarkedPages, with_page, MOST_PAGES}
+use Rattle.page_frames.specs.MarkedPages.{MarkedPages, with_page}
 use Rattle.page_frames.specs.Fields.{AreFields, Marks, place_of, pages_of, marked_pages_of}
 use Rattle.page_frames.proofs.Views.{get-pages_of}
 use Rattle.page_frames.proofs.Changed.{Puts-written, Puts-inserted, IsPlacing-put, AreFields-put, AreFields-changed, pages-put, place-put_same, place-put_other}

@@ -1,7 +1,7 @@
 -- The places of dirty pages.
 use Rattle.std.proofs.Common.{◌≡◌, ◌≢◌, ℕ, ◌<◌, ◌≤◌, List, [], ◌∷◌, ◌++◌, length, length-append, slice_index, Some, None, true, false, refl, ap, ◌∙◌, sym, arith, eqb, ⊎_elim}
 use Rattle.std.specs.Prelude.{Option, IsSome}
-use Rattle.sl_model.specs.Marks.{PROGRAM_PAGES}
+use Rattle.sl_model.specs.declared.layout.TheConstants.{PROGRAM_PAGES}
 use Rattle.std.proofs.lemmas.Map.Steps.{length-le_from_distinct_below}
 use Rattle.std.specs.List.{IsDistinct, list_any}
 use Rattle.std.proofs.lemmas.Bool.Decides.{Decides-eqb, eqb_tells}

@@ -5,8 +5,8 @@ use Rattle.std.specs.Ordering.{nat_cmp}
 use Rattle.std.specs.BTreeMap.{BTreeMap, get, btree_map_len}
 use Rattle.std.specs.FinMap.{empty, insert, len}
 use Rattle.sl_model.specs.Pages.{Pages, IsPage}
-use Rattle.sl_model.specs.Marks.{PROGRAM_PAGES}
-use Rattle.page_frames.specs.MarkedPages.{MarkedPages, MOST_PAGES}
+use Rattle.sl_model.specs.declared.layout.TheConstants.{PROGRAM_PAGES, MOST_PAGES}
+use Rattle.page_frames.specs.MarkedPages.{MarkedPages}
 use Rattle.page_frames.specs.declared.frame.Frame.{Frame}
 use Rattle.page_frames.specs.declared.frames.Frames.TheInside.{Inside}
 

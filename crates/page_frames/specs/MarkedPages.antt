@@ -6,7 +6,7 @@ use Rattle.std.specs.Coded.{Coded, code_by, coded×, coded_ℕ, coded_list}
 use Rattle.std.specs.FinMap as map
 use Rattle.std.proofs.Common.{refl}
 use Rattle.sl_model.specs.Pages.{Pages, ArePages, set_bytes}
-use Rattle.sl_model.specs.Marks.{PROGRAM_PAGES}
+use Rattle.sl_model.specs.declared.layout.TheConstants.{PAGE_SIZE, PROGRAM_PAGES, MOST_PAGES}
 
 pub record MarkedPages : Type 0 where
   pub pages : Pages
@@ -24,19 +24,15 @@ mark dirty page = if list_any (nat_eq page) dirty then dirty else dirty ++ page 
 -- the same with the page of each of some bytes from an address on
 unfoldable pub mark_bytes : List ℕ → ℕ → ℕ → List ℕ
 mark_bytes dirty address zero = dirty
-mark_bytes dirty address (suc count) = mark_bytes (mark dirty (address / 4096)) (address + 1) count
+mark_bytes dirty address (suc count) = mark_bytes (mark dirty (address / PAGE_SIZE)) (address + 1) count
 
 -- a page of zeros, which is dirty, where the page is not mapped yet
 abbrev pub with_page : MarkedPages → ℕ → MarkedPages
-with_page m page = if contains_key m.pages page then m else record { pages = insert m.pages page (replicate 4096 0); dirty = m.dirty ++ page ∷ [] }
+with_page m page = if contains_key m.pages page then m else record { pages = insert m.pages page (replicate PAGE_SIZE 0); dirty = m.dirty ++ page ∷ [] }
 
 -- bytes from an address on, whose pages are dirty
 abbrev pub with_bytes : MarkedPages → ℕ → List ℕ → MarkedPages
 with_bytes m address bytes = record { pages = set_bytes m.pages address bytes; dirty = mark_bytes m.dirty address (length bytes) }
-
--- the most pages that are mapped at once
-abbrev pub MOST_PAGES : ℕ
-MOST_PAGES = 16384
 
 -- what holds of every memory
 pub record IsKept (m : MarkedPages) : Type 0 where

@@ -4,8 +4,9 @@ ghost use Rattle.std.specs.Prelude.{◌≡◌, ℕ, ◌+◌, ◌-◌, ◌<◌, �
 ghost use Rattle.std.specs.Option.{option_copied};
 ghost use Rattle.std.specs.FinMap.{get, len, empty};
 ghost use Rattle.sl_model.specs.Pages.{IsWidth, byte_at, bytes_at, load_at, store_at, low_bytes};
-ghost use Rattle.sl_model.specs.Marks.{MarksGoOn, PROGRAM_PAGES};
-ghost use Rattle.page_frames.specs.MarkedPages.{IsKept, MOST_PAGES, with_page, with_bytes};
+ghost use Rattle.sl_model.specs.Marks.{MarksGoOn};
+ghost use Rattle.sl_model.specs.declared.layout.TheConstants.{PROGRAM_PAGES, MOST_PAGES};
+ghost use Rattle.page_frames.specs.MarkedPages.{IsKept, with_page, with_bytes};
 
 use crate::frame::{Frame, PAGE_LEN, bytes_of};
 use sl_base::Memory;

@@ -9,7 +9,17 @@ use Rattle.rv_machine.specs.declared.machine.Outcome.TheVariants.{Stepped, Call,
 
 -- a machine and its memory as one state
 abbrev pub state_of : Machine → Pages → State
-state_of m pages = record { pc = m.pc; x = m.x; pages = pages; brk = m.brk; brk_end = m.brk_end; next_call = m.next_call; status = m.status; count = m.count; brk_start = m.layout.brk_start; heap_limit = m.layout.heap_limit }
+state_of m pages = record {
+  pc = m.pc;
+  x = m.x;
+  pages = pages;
+  brk = m.brk;
+  brk_end = m.brk_end;
+  next_call = m.next_call;
+  status = m.status;
+  count = m.count;
+  layout = m.layout;
+}
 
 -- The machine and its memory went on to what is next, and the outcome tells it. A call and a trap change nothing.
 abbrev pub WentOn : Next → Machine → Pages → Outcome → Machine → Pages → Type 0

@@ -10,25 +10,9 @@ ghost use Rattle.sl_model.specs.State.{set_register};
 
 use crate::arithmetic;
 use crate::machine::{Machine, Outcome};
-use sl_model::{Bits, Bus, Instr, LoadOp, Register, StoreOp};
-
-/// The trap of a pc, or of the target of a jump that is taken, that is no multiple of 4.
-pub const MISALIGNED: u32 = 0;
-
-/// The trap of a fetch that touches a byte which is not mapped.
-pub const FETCH: u32 = 1;
-
-/// The trap of a word that means no instruction.
-pub const ILLEGAL: u32 = 2;
-
-/// The trap of EBREAK.
-pub const BREAKPOINT: u32 = 3;
-
-/// The trap of a load that touches a byte which is not mapped.
-pub const LOAD_FAULT: u32 = 5;
-
-/// The trap of a store that touches a byte which is not mapped.
-pub const STORE_FAULT: u32 = 7;
+use sl_model::{
+    BREAKPOINT, Bits, Bus, Instr, LOAD_FAULT, LoadOp, MISALIGNED, Register, STORE_FAULT, StoreOp,
+};
 
 /// The value of a register.
 fn register(m: &Machine, r: Register) -> u32

@@ -5,11 +5,11 @@ ghost use Rattle.sl_model.specs.Marks.{MarksGoOn};
 ghost use Rattle.sl_model.specs.Step as next;
 ghost use Rattle.rv_machine.specs.Machine.{state_of, WentOn};
 
-use crate::execute::{FETCH, ILLEGAL, MISALIGNED, execute};
+use crate::execute::execute;
 use crate::machine::{Machine, Outcome};
 use rv_decode::decode;
 use sl_base::Steps;
-use sl_model::{Bus, RunState};
+use sl_model::{Bus, FETCH, ILLEGAL, MISALIGNED, RunState};
 use std::sync::ledger::Ledger;
 
 /// Does the instruction at pc, without a count.

@@ -123,7 +123,7 @@ breakpoint = refl
 
 -- a machine with nothing mapped, at 0x10000
 abbrev bare : List ℕ → State
-bare x = record { pc = 0x10000; x = x; pages = empty; brk = 0; brk_end = 0; next_call = 0; status = Running; count = 7; brk_start = 0; heap_limit = 0 }
+bare x = record { pc = 0x10000; x = x; pages = empty; brk = 0; brk_end = 0; next_call = 0; status = Running; count = 7; layout = record { brk_start = 0; heap_limit = 0 } }
 
 abbrev zeros_32 : List ℕ
 zeros_32 = replicate 32 0

@@ -1,11 +1,8 @@
 -- The list of pages that are marked as changed.
 use Rattle.std.specs.Prelude.{◌≡◌, ℕ, ◌<◌, ◌⊎◌, List, ◌++◌, Contains, Bool, IsTrue}
 use Rattle.std.specs.FinMap.{get}
+use Rattle.sl_model.specs.declared.layout.TheConstants.{PROGRAM_PAGES}
 use Rattle.sl_model.specs.Pages.{Pages}
-
--- pages from this number on are never a program's
-abbrev pub PROGRAM_PAGES : ℕ
-PROGRAM_PAGES = 0xBFFFF
 
 -- The marks go on: those from before stay at the front, and where changes are marked, each page of the program
 -- whose bytes or mapping changed is marked afterwards.

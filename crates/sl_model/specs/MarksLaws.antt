@@ -4,7 +4,8 @@ use Rattle.std.specs.Prelude.{Contains, IsTrue}
 use Rattle.std.specs.FinMap.{get}
 use Rattle.std.proofs.lemmas.List.Elements.{Contains-append_left}
 use Rattle.sl_model.specs.Pages.{Pages}
-use Rattle.sl_model.specs.Marks.{MarksGoOn, PROGRAM_PAGES}
+use Rattle.sl_model.specs.declared.layout.TheConstants.{PROGRAM_PAGES}
+use Rattle.sl_model.specs.Marks.{MarksGoOn}
 
 -- where nothing changed
 pub MarksGoOn-same : (is_marking : Bool) (pages : Pages) (marked : List ℕ) → MarksGoOn is_marking pages marked pages marked

@@ -4,6 +4,7 @@ use Rattle.std.specs.Ordering.{nat_cmp}
 use Rattle.std.specs.FinMap.{FinMap, get, insert}
 use Rattle.std.specs.List.{All}
 use Rattle.std.specs.Option.{option_map, option_and_then}
+use Rattle.sl_model.specs.declared.layout.TheConstants.{PAGE_SIZE}
 
 -- the mapped pages, by their numbers
 abbrev pub Pages : Type 0
@@ -11,7 +12,7 @@ Pages = FinMap nat_cmp (List ℕ)
 
 -- 4,096 bytes
 pub record IsPage (page : List ℕ) : Type 0 where
-  pub whole : length page ≡ 4096
+  pub whole : length page ≡ PAGE_SIZE
   pub bytes : All (λ b. b < 256) page
 
 -- pages of the 32-bit address space
@@ -20,7 +21,7 @@ ArePages pages = (number : ℕ) → IfSome (get pages number) (λ page. (number 
 
 -- the byte at an address, or None where it is not mapped
 unfoldable pub byte_at : Pages → ℕ → Option ℕ
-byte_at pages address = option_and_then (λ page. slice_get page (address % 4096)) (get pages (address / 4096))
+byte_at pages address = option_and_then (λ page. slice_get page (address % PAGE_SIZE)) (get pages (address / PAGE_SIZE))
 
 -- the bytes from an address on, or None where one of them is not mapped
 unfoldable pub bytes_at : Pages → ℕ → ℕ → Option (List ℕ)
@@ -29,7 +30,7 @@ bytes_at pages address (suc count) = option_and_then (λ b. option_map (λ bs. b
 
 -- the pages with another byte at an address; an address that is not mapped changes nothing
 unfoldable pub set_byte : Pages → ℕ → ℕ → Pages
-set_byte pages address b = unwrap_or (option_map (λ page. insert pages (address / 4096) (slice_set page (address % 4096) b)) (get pages (address / 4096))) pages
+set_byte pages address b = unwrap_or (option_map (λ page. insert pages (address / PAGE_SIZE) (slice_set page (address % PAGE_SIZE) b)) (get pages (address / PAGE_SIZE))) pages
 
 -- a page with these bytes from an index on
 unfoldable pub put_bytes : List ℕ → ℕ → List ℕ → List ℕ

@@ -4,35 +4,11 @@ use Rattle.sl_model.specs.declared.instr.LoadOp.{LoadOp}
 use Rattle.sl_model.specs.declared.instr.StoreOp.{StoreOp}
 use Rattle.sl_model.specs.declared.instr.Instr.{Instr}
 use Rattle.sl_model.specs.declared.instr.Instr.TheVariants.{Lui, Auipc, Jal, Jalr, Branch, Load, Store, Immediate, Shift, Register, Multiply, Fence, Ecall, Ebreak}
+use Rattle.sl_model.specs.declared.traps.TheConstants.{MISALIGNED, FETCH, ILLEGAL, BREAKPOINT, LOAD_FAULT, STORE_FAULT}
 use Rattle.sl_model.specs.Pages.{Pages, load_at, store_at}
 use Rattle.sl_model.specs.Words.{meaning}
 use Rattle.sl_model.specs.Arithmetic.{word_add, immediate_word, upper_word, branch_word, jump_word, is_taken, immediate_value, shift_value, register_value, multiply_value, load_width, load_value, store_width}
 use Rattle.sl_model.specs.State.{State, register, set_register}
-
--- The numbers of traps.
--- pc, or the target of a jump that is taken, is no multiple of 4
-abbrev pub MISALIGNED : ℕ
-MISALIGNED = 0
-
--- a byte at pc is not mapped
-abbrev pub FETCH : ℕ
-FETCH = 1
-
--- the word at pc means no instruction
-abbrev pub ILLEGAL : ℕ
-ILLEGAL = 2
-
--- EBREAK
-abbrev pub BREAKPOINT : ℕ
-BREAKPOINT = 3
-
--- a load touches a byte that is not mapped
-abbrev pub LOAD_FAULT : ℕ
-LOAD_FAULT = 5
-
--- a store touches a byte that is not mapped
-abbrev pub STORE_FAULT : ℕ
-STORE_FAULT = 7
 
 -- what the next instruction does
 pub data Next : Type 0 where

@@ -6,7 +6,9 @@ mod bits;
 mod bus;
 mod instr;
 mod laws;
+mod layout;
 mod run_state;
+mod traps;
 
 pub use bits::Bits;
 pub use bus::Bus;
@@ -14,4 +16,9 @@ pub use instr::{
     BranchOp, ImmediateOp, Instr, LoadOp, MultiplyOp, Register, RegisterOp, ShiftOp, StoreOp,
 };
 pub use laws::{one_meaning, one_word, words_mean};
-pub use run_state::{Layout, RunState};
+pub use layout::{
+    FIRST_STACK_PAGE, HEAP_SIZE, Layout, MEMORY_END, MOST_LOADED_PAGES, MOST_PAGES, PAGE_SIZE,
+    PROGRAM_PAGES, STACK_END, STACK_PAGES, STACK_START,
+};
+pub use run_state::RunState;
+pub use traps::{BREAKPOINT, FETCH, ILLEGAL, LOAD_FAULT, MISALIGNED, STORE_FAULT};

@@ -3,7 +3,7 @@ use Rattle.std.specs.Ordering.{nat_cmp}
 use Rattle.std.specs.BTreeMap.{get, btree_map_len}
 use Rattle.std.specs.FinMap as map
 use Rattle.page_frames.specs.Fields.{marked_pages_of, pages_of}
-use Rattle.page_frames.specs.MarkedPages.{MOST_PAGES}
+use Rattle.sl_model.specs.declared.layout.TheConstants.{MOST_PAGES}
 use Rattle.page_frames.proofs.Kept.{length-le-frames, mapped}
 use Rattle.page_frames.proofs.Mapped.{with_page-mapped, AreFields-same, AreFields-mapped, len-with_page, view-mapped, none_found, none_or_one}
 use Rattle.std.specs.Prelude.{is_some}
