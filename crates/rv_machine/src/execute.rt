@@ -15,7 +15,7 @@ use sl_model::{
 };
 
 /// The value of a register.
-fn register(m: &Machine, r: Register) -> u32
+pub(crate) fn register(m: &Machine, r: Register) -> u32
     ensures { result ≡ slice_index m.now.x r }
 {
     m.x[r.value() as usize]

@@ -8,7 +8,10 @@ mod stepping;
 mod stores;
 #[cfg(test)]
 mod tests;
+mod traps;
 
 pub use machine::{Machine, Outcome};
+
 pub use stepping::step;
 pub use stores::store_of;
+pub use traps::next_trap;

@@ -100,3 +100,9 @@ execute_fetched s (Some word) = execute_word s (meaning word)
 -- what a state that runs does next
 unfoldable pub step : State → Next
 step s = if s.pc % 4 == 0 then execute_fetched s (load_at s.pages s.pc 4) else Trapped MISALIGNED
+
+-- the trap that comes next, or None
+abbrev pub trap_of : Next → Option ℕ
+trap_of (Trapped number) = Some number
+trap_of (Stepped state) = None
+trap_of Called = None
