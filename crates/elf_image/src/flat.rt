@@ -2,7 +2,8 @@
 
 ghost use Rattle.elf_image.specs.Reading.{Gives};
 ghost use Rattle.elf_image.specs.Flat.{flat_image, page_count, meets_stack};
-ghost use Rattle.std.specs.Prelude.{◌≡◌, ◌+◌, ◌<◌, ◌≤◌, length, IsTrue, ◌^◌};
+ghost use Rattle.elf_image.specs.Loadable.{IsLoadable};
+ghost use Rattle.std.specs.Prelude.{◌≡◌, ◌+◌, ◌<◌, ◌≤◌, length, IfOk, ◌^◌};
 
 use crate::fault::{ImageCause, ImageFault};
 use crate::image::{Image, Segment};
@@ -45,13 +46,9 @@ fn fault(cause: ImageCause) -> Refused<ImageFault>
     Refused::Fault(ImageFault { place: 0, cause })
 }
 
-/// The image of bytes that are loaded at an address, which is its entry. It has no symbols.
-///
-/// It is refused with `SegmentRange` where there are no bytes, where they pass the end of a program's memory at
-/// 0xBFFFF000, or where their pages and those of the stack are more than 12,288; and then with `Overlap` where they meet
-/// a page of the stack.
+/// The one segment of these bytes, unless they have no place in memory.
 #[tactic(auto, unfolding(crate::specs::Flat::flat_image))]
-pub fn flat_image(alloc: Global, addr: u32, bytes: &[u8]) -> Result<Image, Refused<ImageFault>>
+fn one_segment(alloc: Global, addr: u32, bytes: &[u8]) -> Result<Image, Refused<ImageFault>>
     ensures { Gives (λ image. image) result (flat_image addr bytes.now) }
 {
     let start = u64::from(addr);
@@ -76,4 +73,16 @@ pub fn flat_image(alloc: Global, addr: u32, bytes: &[u8]) -> Result<Image, Refus
         segments,
         symbols: Seq::new(alloc),
     })
+}
+
+/// The image of bytes that are loaded at an address, which is its entry. It has no symbols.
+///
+/// It is refused with `SegmentRange` where there are no bytes, where they pass the end of a program's memory at
+/// 0xBFFFF000, or where their pages and those of the stack are more than 12,288; and then with `Overlap` where they meet
+/// a page of the stack.
+pub fn flat_image(alloc: Global, addr: u32, bytes: &[u8]) -> Result<Image, Refused<ImageFault>>
+    ensures image { Gives (λ image. image) result (flat_image addr bytes.now) }
+    ensures loadable { IfOk result IsLoadable }
+{
+    one_segment(alloc, addr, bytes)
 }

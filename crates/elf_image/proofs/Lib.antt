@@ -1,0 +1,3 @@
+pub mod PageSet
+pub mod LoadableLaws
+pub mod FlatLaws
