@@ -1,14 +1,15 @@
 -- What differs in two lists, from one place on.
 use Rattle.std.proofs.Common.{◌≡◌, ℕ, zero, suc, ◌+◌, ◌<◌, ◌≤◌, List, [], ◌∷◌, length, drop, get_or, None, refl, arith}
-use Rattle.call_log.specs.Differences.{field_diff, ◌else_try◌, fields_diff, bytes_diff}
+use Rattle.std.specs.Option.{option_or}
+use Rattle.call_log.specs.Differences.{field_diff, fields_diff, bytes_diff}
 
-pub fields_diff-at : (field : ℕ) (xs ys : List ℕ) (i d e : ℕ) → i < length xs → i < length ys → fields_diff field (drop i xs) (drop i ys) ≡ (field_diff field (get_or xs i d) (get_or ys i e) else_try fields_diff (field + 1) (drop (suc i) xs) (drop (suc i) ys))
+pub fields_diff-at : (field : ℕ) (xs ys : List ℕ) (i d e : ℕ) → i < length xs → i < length ys → fields_diff field (drop i xs) (drop i ys) ≡ option_or (field_diff field (get_or xs i d) (get_or ys i e)) (fields_diff (field + 1) (drop (suc i) xs) (drop (suc i) ys))
 fields_diff-at field [] ys i d e lt lt2 = absurd (omega arith)
 fields_diff-at field (x ∷ xs) [] i d e lt lt2 = absurd (omega arith)
 fields_diff-at field (x ∷ xs) (y ∷ ys) zero d e lt lt2 = refl
 fields_diff-at field (x ∷ xs) (y ∷ ys) (suc i) d e lt lt2 = fields_diff-at field xs ys i d e (omega arith) (omega arith)
 
-pub bytes_diff-at : (xs ys : List ℕ) (i d e : ℕ) → i < length xs → i < length ys → bytes_diff (drop i xs) (drop i ys) ≡ (field_diff 9 (get_or xs i d) (get_or ys i e) else_try bytes_diff (drop (suc i) xs) (drop (suc i) ys))
+pub bytes_diff-at : (xs ys : List ℕ) (i d e : ℕ) → i < length xs → i < length ys → bytes_diff (drop i xs) (drop i ys) ≡ option_or (field_diff 9 (get_or xs i d) (get_or ys i e)) (bytes_diff (drop (suc i) xs) (drop (suc i) ys))
 bytes_diff-at [] ys i d e lt lt2 = absurd (omega arith)
 bytes_diff-at (x ∷ xs) [] i d e lt lt2 = absurd (omega arith)
 bytes_diff-at (x ∷ xs) (y ∷ ys) zero d e lt lt2 = refl

@@ -1,6 +1,7 @@
 -- The first page that differs.
 use Rattle.std.proofs.Common.{◌≡◌, ℕ, zero, suc, ◌+◌, ◌*◌, ◌^◌, ◌<◌, ◌≤◌, Bool, true, false, List, inl, inr, Some, None, refl, ap, ◌∙◌, sym, arith, ⊎_elim}
 use Rattle.std.specs.Prelude.{Option, IfSome, IsSome, is_some, if◌then◌else◌, nat_lt}
+use Rattle.std.specs.Option.{option_or}
 use Rattle.std.specs.List.{range_with_len}
 use Rattle.std.specs.FinMap.{get, contains_key}
 use Rattle.std.proofs.lemmas.Bool.{cases_lt, cases_eq}
@@ -10,7 +11,6 @@ use Rattle.sl_model.specs.State.{State}
 use Rattle.call_log.specs.declared.breaks.BreakKind.{BreakKind}
 use Rattle.rec_format.specs.declared.recording.Recording.{Recording}
 use Rattle.sl_model.specs.Marks.{PROGRAM_PAGES}
-use Rattle.replay.specs.Calls.{◌else_try◌}
 use Rattle.replay.specs.Breaks.{PartDiff, listings, is_listed, page_diff, pages_diff, as_checkpoint_break, PAGE_NUMBERS}
 use Rattle.checkpoints.specs.Memory.{mapped_diff, IsFirstUnlike, missing_break, told_first}
 use Rattle.checkpoints.proofs.Listings.{IsLeastMissing}
@@ -108,11 +108,11 @@ told opened rec k s (Some u) (Some n) unlikes misses below under =
 
 -- ---- memory after the other parts
 
-pub else_some : (k : ℕ) (a b : Option PartDiff) → true ≡ is_some (as_checkpoint_break k a) → as_checkpoint_break k (a else_try b) ≡ as_checkpoint_break k a
+pub else_some : (k : ℕ) (a b : Option PartDiff) → true ≡ is_some (as_checkpoint_break k a) → as_checkpoint_break k (option_or a b) ≡ as_checkpoint_break k a
 else_some k None b e = absurd cc
 else_some k (Some d) b e = refl
 
-pub else_none : (k : ℕ) (a b : Option PartDiff) → false ≡ is_some (as_checkpoint_break k a) → as_checkpoint_break k (a else_try b) ≡ as_checkpoint_break k b
+pub else_none : (k : ℕ) (a b : Option PartDiff) → false ≡ is_some (as_checkpoint_break k a) → as_checkpoint_break k (option_or a b) ≡ as_checkpoint_break k b
 else_none k None b e = refl
 else_none k (Some d) b e = absurd cc
 

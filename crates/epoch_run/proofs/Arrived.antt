@@ -1,5 +1,6 @@
 -- An epoch that does not break comes to the recorded state of its second checkpoint, and its records go on from there.
 use Rattle.std.proofs.Common.{◌≡◌, ℕ, zero, suc, ◌+◌, ◌<◌, List, [], ◌++◌, Option, Some, None, refl, sym, ap, ◌∙◌, append_assoc, arith, ne_eqb}
+use Rattle.std.specs.Option.{option_or}
 use Rattle.sl_model.specs.declared.run_state.RunState.{RunState}
 use Rattle.sl_model.specs.declared.run_state.RunState.TheVariants.{Running, Exited}
 use Rattle.sl_model.specs.Pages.{Pages}
@@ -8,7 +9,6 @@ use Rattle.call_log.specs.declared.breaks.BreakKind.{BreakKind}
 use Rattle.tracer_lang.specs.declared.record.Record.{Record}
 use Rattle.rec_format.specs.Rules.{IsRecordingValue}
 use Rattle.rec_format.specs.declared.recording.Recording.{Recording}
-use Rattle.replay.specs.Calls.{◌else_try◌}
 use Rattle.replay.specs.Run.{Onward, Goes, Breaks, onward, state_after, run_from}
 use Rattle.replay.specs.Breaks.{PartDiff, checkpoint_diff, checkpoint_break, as_checkpoint_break, listed_break, at_count, listed_or, break_after}
 use Rattle.replay.specs.Recorded.{checkpoint_at, recorded_state, recorded_count}
@@ -24,7 +24,7 @@ closing_is : (rec : Recording) (b : ℕ) (s : State) → b < end_place rec → c
 closing_is rec b s inner = rw (ne_eqb b (end_place rec) (λ same. absurd (omega arith))) refl
 
 arrived : (opened : State) (rec : Recording) (b : ℕ) (s : State) (diff : Option PartDiff) (status : RunState) → IsRecordingValue rec → IsOpened opened → IsInRun opened s → 0 < b → s.count ≡ recorded_count rec b
-    → checkpoint_diff opened.pages rec b (checkpoint_at rec b) s ≡ diff → s.status ≡ status → at_count s (as_checkpoint_break b diff else_try early_exit rec status) ≡ None → s ≡ recorded_state rec opened b
+    → checkpoint_diff opened.pages rec b (checkpoint_at rec b) s ≡ diff → s.status ≡ status → at_count s (option_or (as_checkpoint_break b diff) (early_exit rec status)) ≡ None → s ≡ recorded_state rec opened b
 arrived opened rec b s (Some diff) status is opens runs some count same running none = absurd cc
 arrived opened rec b s None (Exited code) is opens runs some count same running none = absurd cc
 arrived opened rec b s None Running is opens runs some count same running none = same_state rec opened b s is opens runs some running count same
@@ -34,7 +34,7 @@ pub arrives : (opened : State) (rec : Recording) (a b : ℕ) (s : State) → IsR
 unfolding epoch_break_from
 arrives opened rec a b s is opens runs some inner count none =
     arrived opened rec b s (checkpoint_diff opened.pages rec b (checkpoint_at rec b) s) s.status is opens runs some count refl refl
-    (ap (λ closing. at_count s (checkpoint_break opened.pages rec b (checkpoint_at rec b) s else_try closing)) (sym (closing_is rec b s inner)) ∙ none)
+    (ap (λ closing. at_count s (option_or (checkpoint_break opened.pages rec b (checkpoint_at rec b) s) closing)) (sym (closing_is rec b s inner)) ∙ none)
 
 -- the state after the next instruction, from which the epoch does not break either
 pub record Onto (opened : Pages) (rec : Recording) (a b n : ℕ) (s : State) : Type 0 where

@@ -1,5 +1,6 @@
 -- The checkpoints of an epoch that is cut in two at another checkpoint.
 use Rattle.std.specs.Prelude.{if◌then◌else◌}
+use Rattle.std.specs.Option.{option_or}
 use Rattle.std.proofs.Common.{◌≡◌, ℕ, zero, suc, ◌+◌, ◌-◌, ◌<◌, ◌≤◌, ◌==◌, List, [], ◌∷◌, ◌++◌, length, take, drop, Option, Some, None, get_or, refl, sym, ap, ◌∙◌, arith, drop-drop, take-add, get_or-take, get_or-drop, length-take, length-drop, ne_eqb, eq-eqb}
 use Rattle.std.proofs.lemmas.List.{drop_more}
 use Rattle.sl_model.specs.Pages.{Pages}
@@ -8,19 +9,18 @@ use Rattle.call_log.specs.declared.breaks.BreakKind.{BreakKind}
 use Rattle.rec_format.specs.Rules.{IsRecordingValue}
 use Rattle.rec_format.specs.declared.recording.Recording.{Recording}
 use Rattle.rec_format.specs.declared.recording.CheckpointData.{CheckpointData}
-use Rattle.replay.specs.Calls.{◌else_try◌}
 use Rattle.replay.specs.Breaks.{checkpoint_break, listed_break}
 use Rattle.replay.specs.Recorded.{checkpoint_at, recorded_count}
 use Rattle.epoch_run.specs.Epochs.{end_place, between}
 use Rattle.epoch_run.proofs.Counts.{checkpoint_at-suc, recorded_count-suc, counts_rise}
 
-pub else_try-none : {A : Type 0} (x : Option A) → (x else_try None) ≡ x
-else_try-none None = refl
-else_try-none (Some x) = refl
+pub option_or-none : {A : Type 0} (x : Option A) → option_or x None ≡ x
+option_or-none None = refl
+option_or-none (Some x) = refl
 
-pub else_try-assoc : {A : Type 0} (x y z : Option A) → ((x else_try y) else_try z) ≡ (x else_try (y else_try z))
-else_try-assoc None y z = refl
-else_try-assoc (Some x) y z = refl
+pub option_or-assoc : {A : Type 0} (x y z : Option A) → (option_or (option_or x y) z) ≡ option_or x (option_or y z)
+option_or-assoc None y z = refl
+option_or-assoc (Some x) y z = refl
 
 -- ---- what stands between two checkpoints
 
@@ -52,13 +52,13 @@ between-split rec a (suc b) c below above within =
 -- ---- what of them is compared at a state
 
 pub listed_break-append : (opened : Pages) (rec : Recording) (k : ℕ) (xs ys : List CheckpointData) (s : State)
-    → listed_break opened rec k (xs ++ ys) s ≡ (listed_break opened rec k xs s else_try listed_break opened rec (k + length xs) ys s)
+    → listed_break opened rec k (xs ++ ys) s ≡ option_or (listed_break opened rec k xs s) (listed_break opened rec (k + length xs) ys s)
 listed_break-append opened rec k [] ys s = ap (λ n. listed_break opened rec n ys s) (omega arith)
 listed_break-append opened rec k (x ∷ xs) ys s =
     let here : Option BreakKind = if x.count == s.count then checkpoint_break opened rec k x s else None in
     let next : k + 1 + length xs ≡ k + suc (length xs) = omega arith in
-    ap (λ o. here else_try o) (listed_break-append opened rec (k + 1) xs ys s ∙ ap (λ n. listed_break opened rec (k + 1) xs s else_try listed_break opened rec n ys s) next)
-    ∙ sym (else_try-assoc here (listed_break opened rec (k + 1) xs s) (listed_break opened rec (k + suc (length xs)) ys s))
+    ap (λ o. option_or here o) (listed_break-append opened rec (k + 1) xs ys s ∙ ap (λ n. option_or (listed_break opened rec (k + 1) xs s) (listed_break opened rec n ys s)) next)
+    ∙ sym (option_or-assoc here (listed_break opened rec (k + 1) xs s) (listed_break opened rec (k + suc (length xs)) ys s))
 
 pub none_listed : (opened : Pages) (rec : Recording) (k : ℕ) (xs : List CheckpointData) (s : State) → ((i : ℕ) → i < length xs → (get_or xs i rec.last).count ≡ s.count → ⊥) → listed_break opened rec k xs s ≡ None
 none_listed opened rec k [] s apart = refl
@@ -88,12 +88,12 @@ abbrev at_its_count : Pages → Recording → ℕ → State → Option BreakKind
 at_its_count opened rec b s = if (checkpoint_at rec b).count == s.count then checkpoint_break opened rec b (checkpoint_at rec b) s else None
 
 listed-split : (opened : Pages) (rec : Recording) (a b c : ℕ) (s : State) → a < b → b < c → c ≤ end_place rec
-    → listed_break opened rec (a + 1) (between rec a c) s ≡ (listed_break opened rec (a + 1) (between rec a b) s else_try (at_its_count opened rec b s else_try listed_break opened rec (b + 1) (between rec b c) s))
+    → listed_break opened rec (a + 1) (between rec a c) s ≡ option_or (listed_break opened rec (a + 1) (between rec a b) s) (option_or (at_its_count opened rec b s) (listed_break opened rec (b + 1) (between rec b c) s))
 listed-split opened rec a b c s below above within =
     let number : a + 1 + length (between rec a b) ≡ b = omega (arith, length-between rec a b below (omega arith)) in
     ap (λ xs. listed_break opened rec (a + 1) xs s) (between-split rec a b c below above within)
     ∙ listed_break-append opened rec (a + 1) (between rec a b) (checkpoint_at rec b ∷ between rec b c) s
-    ∙ ap (λ n. listed_break opened rec (a + 1) (between rec a b) s else_try listed_break opened rec n (checkpoint_at rec b ∷ between rec b c) s) number
+    ∙ ap (λ n. option_or (listed_break opened rec (a + 1) (between rec a b) s) (listed_break opened rec n (checkpoint_at rec b ∷ between rec b c) s)) number
 
 count_is : (rec : Recording) (b : ℕ) → 0 < b → (checkpoint_at rec b).count ≡ recorded_count rec b
 count_is rec zero some = absurd (omega arith)
@@ -108,9 +108,9 @@ pub listed-before : (opened : Pages) (rec : Recording) (a b c : ℕ) (s : State)
 listed-before opened rec a b c s is below above within early =
     let first : Option BreakKind = listed_break opened rec (a + 1) (between rec a b) s in
     listed-split opened rec a b c s below above within
-    ∙ ap (λ o. first else_try (o else_try listed_break opened rec (b + 1) (between rec b c) s)) (not_at_its_count opened rec b s (omega arith) (λ same. absurd (omega arith)))
-    ∙ ap (λ o. first else_try o) (none_after opened rec b c s is (omega arith) above within (omega arith))
-    ∙ else_try-none first
+    ∙ ap (λ o. option_or first (option_or o (listed_break opened rec (b + 1) (between rec b c) s))) (not_at_its_count opened rec b s (omega arith) (λ same. absurd (omega arith)))
+    ∙ ap (λ o. option_or first o) (none_after opened rec b c s is (omega arith) above within (omega arith))
+    ∙ option_or-none first
 
 -- at b's count checkpoint b alone
 pub listed-at : (opened : Pages) (rec : Recording) (a b c : ℕ) (s : State) → IsRecordingValue rec → a < b → b < c → c ≤ end_place rec → s.count ≡ recorded_count rec b
@@ -120,10 +120,10 @@ listed-at opened rec a b c s is below above within same =
     let it : Option BreakKind = checkpoint_break opened rec b (checkpoint_at rec b) s in
     let here : at_its_count opened rec b s ≡ it = rw (count_is rec b (omega arith), eq-eqb (recorded_count rec b) s.count (sym same)) refl in
     listed-split opened rec a b c s below above within
-    ∙ ap (λ o. o else_try (at_its_count opened rec b s else_try second)) (none_before opened rec a b s is (omega arith) below (omega arith) (omega arith))
-    ∙ ap (λ o. o else_try second) here
-    ∙ ap (λ o. it else_try o) (none_after opened rec b c s is (omega arith) above within (omega arith))
-    ∙ else_try-none it
+    ∙ ap (λ o. option_or o (option_or (at_its_count opened rec b s) second)) (none_before opened rec a b s is (omega arith) below (omega arith) (omega arith))
+    ∙ ap (λ o. option_or o second) here
+    ∙ ap (λ o. option_or it o) (none_after opened rec b c s is (omega arith) above within (omega arith))
+    ∙ option_or-none it
 
 -- after it the second part alone
 pub listed-after : (opened : Pages) (rec : Recording) (a b c : ℕ) (s : State) → IsRecordingValue rec → a < b → b < c → c ≤ end_place rec → recorded_count rec b < s.count
@@ -131,8 +131,8 @@ pub listed-after : (opened : Pages) (rec : Recording) (a b c : ℕ) (s : State) 
 listed-after opened rec a b c s is below above within late =
     let second : Option BreakKind = listed_break opened rec (b + 1) (between rec b c) s in
     listed-split opened rec a b c s below above within
-    ∙ ap (λ o. o else_try (at_its_count opened rec b s else_try second)) (none_before opened rec a b s is (omega arith) below (omega arith) (omega arith))
-    ∙ ap (λ o. o else_try second) (not_at_its_count opened rec b s (omega arith) (λ same. absurd (omega arith)))
+    ∙ ap (λ o. option_or o (option_or (at_its_count opened rec b s) second)) (none_before opened rec a b s is (omega arith) below (omega arith) (omega arith))
+    ∙ ap (λ o. option_or o second) (not_at_its_count opened rec b s (omega arith) (λ same. absurd (omega arith)))
 
 -- at b's count the second part compares none
 pub listed-none : (opened : Pages) (rec : Recording) (b c : ℕ) (s : State) → IsRecordingValue rec → 0 < b → b < c → c ≤ end_place rec → s.count ≡ recorded_count rec b → listed_break opened rec (b + 1) (between rec b c) s ≡ None

@@ -19,11 +19,14 @@ use Rattle.sl_model.specs.Words.{meaning}
 use Rattle.sl_model.specs.Arithmetic.{word_add, branch_word, is_taken}
 use Rattle.sl_model.specs.State.{State, register, set_register}
 use Rattle.sl_model.specs.Step.{Next, Stepped, Called, Trapped, step, execute, execute_word, execute_fetched, put_register, gone_to, after, jump, branch, pass, loaded, stored}
+use Rattle.call_log.specs.declared.ask.Ask.{Ask}
+use Rattle.call_log.specs.declared.ask.CallDiff.{CallDiff}
 use Rattle.call_log.specs.declared.entry.CallEntry.{CallEntry}
+use Rattle.call_log.specs.Differences.{first_difference}
 use Rattle.rec_format.specs.declared.recording.Recording.{Recording}
 use Rattle.replay.specs.Opening.{round_up}
-use Rattle.replay.specs.Calls.{FieldDiff, call_of, call_diff, is_exit, exited, answered, is_outside, data_done, call_done, brk_done, brk_mapped_end, is_break, arg, buffer, brk_number}
-use Rattle.replay.specs.Run.{Onward, Goes, Breaks, onward, onward_in, stepped, call, called, matched}
+use Rattle.replay.specs.Calls.{call_of, ask_of, exited, answered, is_outside, data_done, call_done, brk_done, brk_mapped_end, is_break, arg, buffer, brk_number}
+use Rattle.replay.specs.Run.{Onward, Goes, Breaks, onward, onward_in, stepped, asked, called, matched}
 use Rattle.sl_base.specs.declared.call.Call.{Call}
 use Rattle.sl_base.specs.World.{write_number}
 use Rattle.epoch_run.specs.Opened.{IsOpened}
@@ -329,22 +332,21 @@ kept_answer opened s entry limit is =
       end_grows = end-call s (call_of s) entry.bytes;
     }
 
-kept_matched : (opened s : State) (entry : CallEntry) (diff : Option FieldDiff) → opened.heap_limit % 4096 ≡ 0 → IsInRun opened s → IsKept opened s (matched s entry diff)
+kept_matched : (opened s : State) (entry : CallEntry) (diff : Option CallDiff) → opened.heap_limit % 4096 ≡ 0 → IsInRun opened s → IsKept opened s (matched s entry diff)
 kept_matched opened s entry None limit is = kept_answer opened s entry limit is
 kept_matched opened s entry (Some diff) limit is = tt
 
-kept_called : (opened s : State) (entry : Option CallEntry) → opened.heap_limit % 4096 ≡ 0 → IsInRun opened s → IsKept opened s (called s entry)
-kept_called opened s None limit is = tt
-kept_called opened s (Some entry) limit is = kept_matched opened s entry (call_diff s entry) limit is
+kept_called : (opened s : State) (ask : Ask) (entry : Option CallEntry) → opened.heap_limit % 4096 ≡ 0 → IsInRun opened s → IsKept opened s (called s ask entry)
+kept_called opened s ask None limit is = tt
+kept_called opened s ask (Some entry) limit is = kept_matched opened s entry (first_difference entry ask) limit is
 
-kept_if : (opened s : State) (b : Bool) (x y : Onward) → IsKept opened s x → IsKept opened s y → IsKept opened s (if b then x else y)
-kept_if opened s true x y first second = first
-kept_if opened s false x y first second = second
+kept_asked : (rec : Recording) (opened s : State) (ask : Option Ask) → opened.heap_limit % 4096 ≡ 0 → IsInRun opened s → IsKept opened s (asked rec s ask)
+kept_asked rec opened s None limit is = kept_exit opened s is
+kept_asked rec opened s (Some ask) limit is = kept_called opened s ask (slice_get rec.calls s.next_call) limit is
 
 kept_step : (rec : Recording) (opened s : State) (next : Next) → opened.heap_limit % 4096 ≡ 0 → IsInRun opened s → LeadsOn s next → IsKept opened s (stepped rec s next)
 kept_step rec opened s (Stepped t) limit is leads = record { in_run = IsInRun-next opened s t is leads; count = leads.count; end_grows = omega (arith, leads.brk_end) }
-kept_step rec opened s Called limit is leads =
-    kept_if opened s (is_exit (call_of s)) (Goes (exited s)) (called s (slice_get rec.calls s.next_call)) (kept_exit opened s is) (kept_called opened s (slice_get rec.calls s.next_call) limit is)
+kept_step rec opened s Called limit is leads = kept_asked rec opened s (ask_of s) limit is
 kept_step rec opened s (Trapped number) limit is leads = tt
 
 kept_in : (rec : Recording) (opened s : State) (status : RunState) → opened.heap_limit % 4096 ≡ 0 → IsInRun opened s → IsKept opened s (onward_in rec s status)

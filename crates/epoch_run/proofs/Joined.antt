@@ -1,5 +1,6 @@
 -- An epoch is its first part, and then its second part from the recorded state between them.
 use Rattle.std.proofs.Common.{◌≡◌, ℕ, zero, suc, ◌+◌, ◌<◌, ◌≤◌, Option, Some, None, refl, sym, ap, ◌∙◌, arith, ne_eqb}
+use Rattle.std.specs.Option.{option_or}
 use Rattle.sl_model.specs.declared.run_state.RunState.{RunState}
 use Rattle.sl_model.specs.declared.run_state.RunState.TheVariants.{Running, Exited}
 use Rattle.sl_model.specs.Pages.{Pages}
@@ -9,7 +10,6 @@ use Rattle.call_log.specs.declared.breaks.BreakKind.{BreakKind}
 use Rattle.call_log.specs.declared.breaks.BreakKind.TheVariants.{EarlyEnd}
 use Rattle.rec_format.specs.Rules.{IsRecordingValue}
 use Rattle.rec_format.specs.declared.recording.Recording.{Recording}
-use Rattle.replay.specs.Calls.{◌else_try◌}
 use Rattle.replay.specs.Run.{Onward, Goes, Breaks, onward, onward_in}
 use Rattle.replay.specs.Breaks.{PartDiff, checkpoint_diff, checkpoint_break, as_checkpoint_break, listed_break, at_count, listed_or, break_after}
 use Rattle.replay.specs.Recorded.{checkpoint_at, recorded_state, recorded_count}
@@ -38,8 +38,8 @@ same_after s None (Goes t) f g same = same t refl
 same_after s None (Breaks kind) f g same = refl
 
 -- the same where one of them goes further
-further_after : (s : State) (listed : Option BreakKind) (on : Onward) (f g : State → Option Break) (more : Option Break) → ((t : State) → on ≡ Goes t → f t ≡ (g t else_try more))
-    → listed_or s listed (break_after s f on) ≡ (listed_or s listed (break_after s g on) else_try more)
+further_after : (s : State) (listed : Option BreakKind) (on : Onward) (f g : State → Option Break) (more : Option Break) → ((t : State) → on ≡ Goes t → f t ≡ option_or (g t) more)
+    → listed_or s listed (break_after s f on) ≡ option_or (listed_or s listed (break_after s g on)) more
 further_after s (Some kind) on f g more same = refl
 further_after s None (Goes t) f g more same = same t refl
 further_after s None (Breaks kind) f g more same = refl
@@ -72,7 +72,7 @@ from_there opened rec b c m s = refl
 break-at : (opened : State) (rec : Recording) (a b c m : ℕ) (s : State) (diff : Option PartDiff) (status : RunState) → IsRecordingValue rec → IsOpened opened → IsCut rec a b c → IsInRun opened s → s.count ≡ recorded_count rec b
     → checkpoint_diff opened.pages rec b (checkpoint_at rec b) s ≡ diff → s.status ≡ status
     → listed_or s (as_checkpoint_break b diff) (break_after s (λ t. epoch_break_from opened.pages rec a c t m) (onward rec s))
-    ≡ (at_count s (as_checkpoint_break b diff else_try early_exit rec status) else_try epoch_break_from opened.pages rec b c (recorded_state rec opened b) (suc m))
+    ≡ option_or (at_count s (option_or (as_checkpoint_break b diff) (early_exit rec status))) (epoch_break_from opened.pages rec b c (recorded_state rec opened b) (suc m))
 break-at opened rec a b c m s (Some diff) status is opens cut runs count same running = refl
 break-at opened rec a b c m s None (Exited code) is opens cut runs count same running =
     ap (break_after s (λ t. epoch_break_from opened.pages rec a c t m)) (onward_exited rec s code running)
@@ -89,7 +89,7 @@ break-at opened rec a b c m s None Running is opens cut runs count same running 
 -- ---- up to b's count, and on from there
 
 pub break-joined : (opened : State) (rec : Recording) (a b c n m all : ℕ) (s : State) → IsRecordingValue rec → IsOpened opened → IsCut rec a b c → IsInRun opened s → s.count + n ≡ recorded_count rec b → 0 < m → all ≡ n + m
-    → epoch_break_from opened.pages rec a c s all ≡ (epoch_break_from opened.pages rec a b s n else_try epoch_break_from opened.pages rec b c (recorded_state rec opened b) m)
+    → epoch_break_from opened.pages rec a c s all ≡ option_or (epoch_break_from opened.pages rec a b s n) (epoch_break_from opened.pages rec b c (recorded_state rec opened b) m)
 unfolding epoch_break_from
 break-joined opened rec a b c zero zero all s is opens cut runs count some sum = absurd (omega arith)
 break-joined opened rec a b c zero (suc m) all s is opens cut runs count some sum =
@@ -99,7 +99,7 @@ break-joined opened rec a b c zero (suc m) all s is opens cut runs count some su
     ap (epoch_break_from opened.pages rec a c s) number
     ∙ ap (λ listed. listed_or s listed (break_after s follow (onward rec s))) (listed-at opened.pages rec a b c s is cut.below cut.above cut.within at)
     ∙ break-at opened rec a b c m s (checkpoint_diff opened.pages rec b (checkpoint_at rec b) s) s.status is opens cut runs at refl refl
-    ∙ ap (λ closing. at_count s (checkpoint_break opened.pages rec b (checkpoint_at rec b) s else_try closing) else_try epoch_break_from opened.pages rec b c (recorded_state rec opened b) (suc m)) (sym (closing_is rec a b c s cut))
+    ∙ ap (λ closing. option_or (at_count s (option_or (checkpoint_break opened.pages rec b (checkpoint_at rec b) s) closing)) (epoch_break_from opened.pages rec b c (recorded_state rec opened b) (suc m))) (sym (closing_is rec a b c s cut))
 break-joined opened rec a b c (suc n) m zero s is opens cut runs count some sum = absurd (omega arith)
 break-joined opened rec a b c (suc n) m (suc all) s is opens cut runs count some sum =
     ap (λ listed. listed_or s listed (break_after s (λ t. epoch_break_from opened.pages rec a c t all) (onward rec s))) (listed-before opened.pages rec a b c s is cut.below cut.above cut.within (omega arith))

@@ -1,5 +1,6 @@
 -- The epochs of a cutting, one after the other.
 use Rattle.std.specs.Prelude.{slice_get, slice_index}
+use Rattle.std.specs.Option.{option_or}
 use Rattle.std.specs.List.{flat_map, range_with_len}
 use Rattle.std.proofs.Common.{◌≡◌, ℕ, zero, suc, ◌+◌, ◌-◌, ◌<◌, ◌≤◌, ◌⊎◌, inl, inr, ⊎_elim, List, [], ◌∷◌, ◌++◌, length, Option, Some, None, refl, sym, ap, subst, ◌∙◌, append_assoc, append-nil, arith, eq-eqb, take_all}
 use Rattle.std.proofs.lemmas.Option.{get_or_from_slice_get}
@@ -12,7 +13,6 @@ use Rattle.tracer_lang.specs.declared.record.Record.{Record}
 use Rattle.rec_format.specs.Rules.{IsRecordingValue}
 use Rattle.rec_format.specs.declared.recording.Recording.{Recording}
 use Rattle.rec_format.specs.declared.recording.CheckpointData.{CheckpointData}
-use Rattle.replay.specs.Calls.{◌else_try◌}
 use Rattle.replay.specs.Run.{onward, run_from}
 use Rattle.replay.specs.Breaks.{checkpoint_break, listed_break, end_break, at_count, listed_or, break_after, first_break_from, first_break}
 use Rattle.replay.specs.Recorded.{checkpoint_at, recorded_state, recorded_count}
@@ -22,7 +22,7 @@ use Rattle.epoch_run.specs.Epochs.{end_place, between, epoch_size, epoch_break_f
 use Rattle.epoch_run.specs.EpochLaws.{epochs_of, break_of, records_of, NoneBreaks, StartsOnTheRun, LeastBreakIsFirst, BreaksWithTheRun, RecordsOfTheRun}
 use Rattle.epoch_run.specs.Opened.{IsOpened}
 use Rattle.epoch_run.proofs.Counts.{counts_rise, checkpoint_at-suc}
-use Rattle.epoch_run.proofs.Between.{else_try-none}
+use Rattle.epoch_run.proofs.Between.{option_or-none}
 use Rattle.epoch_run.proofs.Recorded.{IsInRun-recorded, count-recorded}
 use Rattle.epoch_run.proofs.Joined.{IsCut, break-joined}
 use Rattle.epoch_run.proofs.Arrived.{run-arrives, run-add, records-joined}
@@ -43,7 +43,7 @@ sizes rec opened a b c is opens cut =
     let second : recorded_count rec b < recorded_count rec c = counts_rise rec b c is (omega arith) above within in
     record { reaches = omega (arith, count-recorded rec opened a opens); some = omega arith; sum = omega arith }
 
-pub breaks_join : (rec : Recording) (opened : State) (a b c : ℕ) → IsRecordingValue rec → IsOpened opened → IsCut rec a b c → epoch_break rec opened a c ≡ (epoch_break rec opened a b else_try epoch_break rec opened b c)
+pub breaks_join : (rec : Recording) (opened : State) (a b c : ℕ) → IsRecordingValue rec → IsOpened opened → IsCut rec a b c → epoch_break rec opened a c ≡ option_or (epoch_break rec opened a b) (epoch_break rec opened b c)
 breaks_join rec opened a b c is opens cut =
     let size = sizes rec opened a b c is opens cut in
     break-joined opened rec a b c (epoch_size rec a b) (epoch_size rec b c) (epoch_size rec a c) (recorded_state rec opened a) is opens cut (IsInRun-recorded rec opened a is opens) size.reaches size.some size.sum
@@ -79,8 +79,8 @@ pub whole_break : (opened : Pages) (rec : Recording) (n : ℕ) (s : State) → f
 unfolding first_break_from epoch_break_from
 whole_break opened rec zero s =
     let k : ℕ = end_place rec in
-    ap (λ checkpoint. at_count s (checkpoint_break opened rec k checkpoint s else_try end_break rec s)) (sym (last_is_last rec))
-    ∙ ap (λ closing. at_count s (checkpoint_break opened rec k (checkpoint_at rec k) s else_try closing)) (rw (eq-eqb k k refl) refl)
+    ap (λ checkpoint. at_count s (option_or (checkpoint_break opened rec k checkpoint s) (end_break rec s))) (sym (last_is_last rec))
+    ∙ ap (λ closing. at_count s (option_or (checkpoint_break opened rec k (checkpoint_at rec k) s) closing)) (rw (eq-eqb k k refl) refl)
 whole_break opened rec (suc n) s =
     ap (λ checkpoints. listed_or s (listed_break opened rec 1 checkpoints s) (break_after s (λ t. first_break_from opened rec t n) (onward rec s))) (sym (all_between rec))
     ∙ ap (λ follow. listed_or s (listed_break opened rec 1 (between rec 0 (end_place rec)) s) (break_after s follow (onward rec s))) (λ i t. whole_break opened rec n t i)
@@ -159,9 +159,9 @@ module _ (rec : Recording) (opened : State) (places : List ℕ) (is : IsRecordin
   last_or_more k within = ⊎_elim (λ (same : k + 2 ≡ length places). inl same) (λ (apart : k + 2 ≡ length places → ⊥). inr (omega arith)) (cases_eq (k + 2) (length places))
 
   -- the first break from a place on is that of its epoch, and else a later one
-  begins : (k : ℕ) → k < epochs_of places → (more : Option Break) × (rest_break k ≡ (break_of rec opened places k else_try more))
+  begins : (k : ℕ) → k < epochs_of places → (more : Option Break) × (rest_break k ≡ option_or (break_of rec opened places k) more)
   begins k within = ⊎_elim
-      (λ (last : k + 2 ≡ length places). (None, ap (epoch_break rec opened (place k)) (sym (at_end_place k last)) ∙ sym (else_try-none (break_of rec opened places k))))
+      (λ (last : k + 2 ≡ length places). (None, ap (epoch_break rec opened (place k)) (sym (at_end_place k last)) ∙ sym (option_or-none (break_of rec opened places k))))
       (λ (inner : k + 2 < length places). (rest_break (k + 1), breaks_join rec opened (place k) (place (k + 1)) (end_place rec) is opens (is_cut k inner)))
       (last_or_more k within)
 
@@ -178,15 +178,15 @@ module _ (rec : Recording) (opened : State) (places : List ℕ) (is : IsRecordin
       let before : NoneBreaks rec opened places k = λ j below. none j (omega arith) in
       none_before k (omega arith) before
       ∙ breaks_join rec opened (place k) (place (k + 1)) (end_place rec) is opens (is_cut k (more_places k within))
-      ∙ ap (λ broken. broken else_try rest_break (k + 1)) (none k (omega arith))
+      ∙ ap (λ broken. option_or broken (rest_break (k + 1))) (none k (omega arith))
       ∙ ap rest_break (next_number k)
 
   pub least_break : LeastBreakIsFirst rec opened places
   least_break k broken within none breaks =
       let begun = begins k within in
-      none_before k within none ∙ begun.1 ∙ ap (λ it. it else_try begun.0) breaks
+      none_before k within none ∙ begun.1 ∙ ap (λ it. option_or it begun.0) breaks
 
-  none_first : (x y : Option Break) → (x else_try y) ≡ None → x ≡ None
+  none_first : (x y : Option Break) → option_or x y ≡ None → x ≡ None
   none_first None y none = refl
   none_first (Some x) y none = none
 

@@ -1,12 +1,12 @@
 -- A segment that starts at the recorded state of its first checkpoint.
 use Rattle.std.proofs.Common.{◌≡◌, ℕ, ◌+◌, ◌-◌, ◌<◌, ◌≤◌, List, ◌++◌, Some, None, refl, sym, ap, ◌∙◌, arith}
+use Rattle.std.specs.Option.{option_or}
 use Rattle.sl_model.specs.Pages.{Pages}
 use Rattle.sl_model.specs.State.{State}
 use Rattle.call_log.specs.declared.breaks.Break.{Break}
 use Rattle.tracer_lang.specs.declared.record.Record.{Record}
 use Rattle.rec_format.specs.Rules.{IsRecordingValue}
 use Rattle.rec_format.specs.declared.recording.Recording.{Recording}
-use Rattle.replay.specs.Calls.{◌else_try◌}
 use Rattle.replay.specs.Run.{run_from}
 use Rattle.replay.specs.Breaks.{at_count, checkpoint_break}
 use Rattle.replay.specs.Recorded.{checkpoint_at, recorded_state, recorded_count}
@@ -52,7 +52,7 @@ module _ (rec : Recording) (opened : State) (j : ℕ) (s : State) (upto : ℕ) (
 
   -- where it comes to its end
   module _ (tracers : Tracers) (t : State) (old new : List Record) (way : IsUnderWay rec tracers s (upto - s.count) t 0 old new) where
-    pub segment_closes : at_count t (checkpoint_break opened.pages rec (j + 1) (checkpoint_at rec (j + 1)) t else_try closing_break rec (j + 1) t) ≡ epoch_break rec opened j (j + 1)
+    pub segment_closes : at_count t (option_or (checkpoint_break opened.pages rec (j + 1) (checkpoint_at rec (j + 1)) t) (closing_break rec (j + 1) t)) ≡ epoch_break rec opened j (j + 1)
     unfolding epoch_break_from
     segment_closes = sym (way.breaks opened.pages j (j + 1) refl) ∙ break_is
 

@@ -1,5 +1,6 @@
 -- A state that runs and does not differ from a checkpoint is the state that the checkpoint records.
 use Rattle.std.specs.Prelude.{if◌then◌else◌, ◌*◌, ◌^◌, ◌==◌, nat_le, nat_lt, IfSome, is_some, slice_index}
+use Rattle.std.specs.Option.{option_or}
 use Rattle.std.specs.List.{range_with_len}
 use Rattle.std.specs.Cmp.{nat_cmp_total}
 use Rattle.std.specs.FinMap.{get, same_map, nat_cmp-IsAntisymmetric}
@@ -11,7 +12,6 @@ use Rattle.sl_model.specs.State.{State}
 use Rattle.rec_format.specs.Rules.{IsRecordingValue}
 use Rattle.rec_format.specs.declared.recording.Recording.{Recording}
 use Rattle.rec_format.specs.declared.recording.CheckpointData.{CheckpointData}
-use Rattle.replay.specs.Calls.{◌else_try◌}
 use Rattle.replay.specs.Breaks.{PartDiff, part_diff, parts_diff, bytes_diff, page_diff, pages_diff, recorded_page, PAGE_NUMBERS, machine_diff, checkpoint_diff}
 use Rattle.replay.specs.Recorded.{recorded_end, recorded_pages, recorded_state_of, recorded_state, recorded_count, checkpoint_at}
 use Rattle.epoch_run.specs.Opened.{IsOpened}
@@ -21,11 +21,11 @@ use Rattle.epoch_run.proofs.Recorded.{get-recorded_pages, length-recorded_page, 
 
 -- ---- where nothing differs
 
-pub first_none : {A : Type 0} (x y : Option A) → (x else_try y) ≡ None → x ≡ None
+pub first_none : {A : Type 0} (x y : Option A) → option_or x y ≡ None → x ≡ None
 first_none None y none = refl
 first_none (Some x) y none = none
 
-second_none : {A : Type 0} (x y : Option A) → (x else_try y) ≡ None → y ≡ None
+second_none : {A : Type 0} (x y : Option A) → option_or x y ≡ None → y ≡ None
 second_none None y none = none
 second_none (Some x) y none = absurd cc
 
@@ -74,12 +74,12 @@ pub record IsSameMachine (checkpoint : CheckpointData) (s : State) : Type 0 wher
 abbrev Diff : Type 0
 Diff = Option PartDiff
 
-none_of_five : (a b c d e : Diff) → (a else_try b else_try c else_try d else_try e) ≡ None → (a ≡ None) × (b ≡ None) × (c ≡ None) × (d ≡ None) × (e ≡ None)
+none_of_five : (a b c d e : Diff) → option_or a (option_or b (option_or c (option_or d e))) ≡ None → (a ≡ None) × (b ≡ None) × (c ≡ None) × (d ≡ None) × (e ≡ None)
 none_of_five a b c d e none =
-    let four = first_none (a else_try b else_try c else_try d) e none in
-    let three = first_none (a else_try b else_try c) d four in
-    let two = first_none (a else_try b) c three in
-    (first_none a b two, second_none a b two, second_none (a else_try b) c three, second_none (a else_try b else_try c) d four, second_none (a else_try b else_try c else_try d) e none)
+    let four = second_none a (option_or b (option_or c (option_or d e))) none in
+    let three = second_none b (option_or c (option_or d e)) four in
+    let two = second_none c (option_or d e) three in
+    (first_none a _ none, first_none b _ four, first_none c _ three, first_none d e two, second_none d e two)
 
 pub same_machine : (checkpoint : CheckpointData) (s : State) → machine_diff checkpoint s ≡ None → IsSameMachine checkpoint s
 unfolding machine_diff

@@ -1,12 +1,12 @@
 -- An epoch, one segment after the other.
 use Rattle.std.proofs.Common.{◌≡◌, ℕ, zero, suc, ◌+◌, ◌-◌, ◌<◌, ◌≤◌, ⊎_elim, List, [], ◌++◌, Some, None, refl, sym, ap, subst, ◌∙◌, arith}
+use Rattle.std.specs.Option.{option_or}
 use Rattle.std.proofs.lemmas.Bool.{cases_eq}
 use Rattle.sl_model.specs.State.{State}
 use Rattle.call_log.specs.declared.breaks.Break.{Break}
 use Rattle.tracer_lang.specs.declared.record.Record.{Record}
 use Rattle.rec_format.specs.Rules.{IsRecordingValue}
 use Rattle.rec_format.specs.declared.recording.Recording.{Recording}
-use Rattle.replay.specs.Calls.{◌else_try◌}
 use Rattle.replay.specs.Recorded.{recorded_count}
 use Rattle.epoch_run.specs.Records.{Tracers}
 use Rattle.epoch_run.specs.Epochs.{end_place, epoch_break, epoch_records}
@@ -44,7 +44,7 @@ module _ (rec : Recording) (opened : State) (tracers : Tracers) (a j : ℕ) (lef
       (λ (same : a ≡ j). ap (λ n. epoch_break rec opened n (j + 1)) same)
       (λ (apart : a ≡ j → ⊥).
       breaks_join rec opened a j (j + 1) is opens (record { below = omega arith; above = omega arith; within = omega arith })
-      ∙ ap (λ first. first else_try epoch_break rec opened j (j + 1)) (so_far.breaks (omega arith)))
+      ∙ ap (λ first. option_or first (epoch_break rec opened j (j + 1))) (so_far.breaks (omega arith)))
       (cases_eq a j)
 
   next_records : j < end_place rec → epoch_records rec opened tracers a (j + 1) ≡ left ++ epoch_records rec opened tracers j (j + 1)
@@ -72,7 +72,7 @@ module _ (rec : Recording) (opened : State) (tracers : Tracers) (a j : ℕ) (lef
       (λ (same : j + 1 ≡ b). sym (ap (epoch_break rec opened a) same) ∙ there)
       (λ (apart : j + 1 ≡ b → ⊥).
       breaks_join rec opened a (j + 1) b is opens (record { below = omega arith; above = omega arith; within = within })
-      ∙ ap (λ first. first else_try epoch_break rec opened (j + 1) b) there)
+      ∙ ap (λ first. option_or first (epoch_break rec opened (j + 1) b)) there)
       (cases_eq (j + 1) b)
 
 -- ---- steps

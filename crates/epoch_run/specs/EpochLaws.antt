@@ -1,5 +1,6 @@
 -- Why the epochs of a cutting are the one run.
 use Rattle.std.specs.Prelude.{◌≡◌, ℕ, ◌+◌, ◌-◌, ◌<◌, ◌≤◌, ◌↔◌, List, length, Option, Some, None, slice_index, ◌∷◌, ◌++◌}
+use Rattle.std.specs.Option.{option_or}
 use Rattle.std.specs.List.{flat_map, range_with_len}
 use Rattle.sl_model.specs.State.{State}
 use Rattle.call_log.specs.declared.breaks.Break.{Break}
@@ -7,7 +8,6 @@ use Rattle.rec_format.specs.declared.recording.Recording.{Recording}
 use Rattle.tracer_lang.specs.declared.record.Record.{Record}
 use Rattle.replay.specs.Run.{run_from}
 use Rattle.replay.specs.Breaks.{first_break}
-use Rattle.replay.specs.Calls.{◌else_try◌}
 use Rattle.replay.specs.Recorded.{recorded_state, recorded_count}
 use Rattle.epoch_run.specs.Records.{Tracers, records}
 use Rattle.epoch_run.specs.Epochs.{end_place, epoch_size, epoch_break, epoch_records, EpochValue, Ran, Broke, epoch_value}
@@ -16,7 +16,7 @@ use Rattle.epoch_run.specs.Epochs.{end_place, epoch_size, epoch_break, epoch_rec
 
 -- it breaks where its first part does, and else where its second part does
 abbrev pub BreaksJoin : Recording → State → Type 0
-BreaksJoin rec opened = (a b c : ℕ) → a < b → b < c → c ≤ end_place rec → epoch_break rec opened a c ≡ (epoch_break rec opened a b else_try epoch_break rec opened b c)
+BreaksJoin rec opened = (a b c : ℕ) → a < b → b < c → c ≤ end_place rec → epoch_break rec opened a c ≡ option_or (epoch_break rec opened a b) (epoch_break rec opened b c)
 
 -- where the first part does not break, its records come before those of the second
 abbrev pub RecordsJoin : Recording → State → Tracers → Type 0

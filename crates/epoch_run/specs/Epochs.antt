@@ -1,6 +1,7 @@
 -- What an epoch of a recording gives: the stretch from one checkpoint to a later one, replayed by itself from the state
 -- that the first of them records. Checkpoint 0 is the opening state, and the last is that of the end.
 use Rattle.std.specs.Prelude.{ℕ, zero, suc, ◌+◌, ◌-◌, ◌==◌, List, [], ◌++◌, length, take, drop, Option, Some, None, if◌then◌else◌}
+use Rattle.std.specs.Option.{option_or}
 use Rattle.sl_model.specs.declared.run_state.RunState.{RunState}
 use Rattle.sl_model.specs.declared.run_state.RunState.TheVariants.{Running, Exited}
 use Rattle.sl_model.specs.Pages.{Pages}
@@ -11,7 +12,6 @@ use Rattle.call_log.specs.declared.breaks.BreakKind.TheVariants.{EarlyEnd}
 use Rattle.rec_format.specs.declared.recording.Recording.{Recording}
 use Rattle.rec_format.specs.declared.recording.CheckpointData.{CheckpointData}
 use Rattle.tracer_lang.specs.declared.record.Record.{Record}
-use Rattle.replay.specs.Calls.{◌else_try◌}
 use Rattle.replay.specs.Run.{onward}
 use Rattle.replay.specs.Breaks.{checkpoint_break, listed_break, end_break, at_count, listed_or, break_after}
 use Rattle.replay.specs.Recorded.{checkpoint_at, recorded_state, recorded_count}
@@ -46,7 +46,7 @@ closing_break rec b s = if b == end_place rec then end_break rec s else early_ex
 -- The first break of the epoch from checkpoint a to checkpoint b, from a state on with so many instructions left before
 -- b's count. Checkpoint a is not compared.
 unfoldable pub epoch_break_from : Pages → Recording → ℕ → ℕ → State → ℕ → Option Break
-epoch_break_from opened rec a b s zero = at_count s (checkpoint_break opened rec b (checkpoint_at rec b) s else_try closing_break rec b s)
+epoch_break_from opened rec a b s zero = at_count s (option_or (checkpoint_break opened rec b (checkpoint_at rec b) s) (closing_break rec b s))
 epoch_break_from opened rec a b s (suc n) = listed_or s (listed_break opened rec (a + 1) (between rec a b) s) (break_after s (λ t. epoch_break_from opened rec a b t n) (onward rec s))
 
 -- the same from the recorded state of a, whatever it is

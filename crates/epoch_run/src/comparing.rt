@@ -1,10 +1,10 @@
 //! What is tried at the checkpoint that an epoch ends at.
 
 ghost use Rattle.std.specs.Prelude.{◌≡◌, ◌<◌, ◌≤◌, ◌^◌, None};
+ghost use Rattle.std.specs.Option.{option_or};
 ghost use Rattle.rv_machine.specs.Machine.{state_of};
 ghost use Rattle.rec_format.specs.Rules.{IsRecordingValue};
 ghost use Rattle.checkpoints.specs.RecordedRun.{IsOf};
-ghost use Rattle.replay.specs.Calls.{◌else_try◌};
 ghost use Rattle.replay.specs.Breaks.{at_count, checkpoint_break};
 ghost use Rattle.replay.specs.Recorded.{checkpoint_at};
 ghost use Rattle.epoch_run.specs.Epochs.{end_place, early_exit, closing_break};
@@ -57,7 +57,7 @@ pub fn break_at_checkpoint(
     requires within { k ≤ end_place rec.now }
     requires count { m.now.count < 2 ^ 62 }
     ensures first { let s = state_of m.now f.old.pages in
-        result ≡ at_count s (checkpoint_break checkpoints.now.opened.pages rec.now k (checkpoint_at rec.now k) s else_try closing_break rec.now k s) }
+        result ≡ at_count s (option_or (checkpoint_break checkpoints.now.opened.pages rec.now k (checkpoint_at rec.now k) s) (closing_break rec.now k s)) }
     ensures pages { result ≡ None → f.new.pages ≡ f.old.pages }
 {
     let count = m.count;

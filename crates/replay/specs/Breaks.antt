@@ -1,5 +1,6 @@
 -- Where a replay first differs from its recording.
 use Rattle.std.specs.Prelude.{ℕ, zero, suc, ◌+◌, ◌*◌, ◌^◌, ◌==◌, ◌||◌, Bool, true, false, List, [], ◌∷◌, ◌++◌, length, take, drop, Option, Some, None, unwrap_or, nat_lt, if◌then◌else◌}
+use Rattle.std.specs.Option.{option_or}
 use Rattle.std.specs.List.{flat_map, range_with_len}
 use Rattle.std.specs.FinMap.{get}
 use Rattle.sl_model.specs.declared.run_state.RunState.{RunState}
@@ -16,7 +17,6 @@ use Rattle.rec_format.specs.declared.recording.Recording.{Recording}
 use Rattle.rec_format.specs.declared.recording.CheckpointData.{CheckpointData}
 use Rattle.rec_format.specs.declared.recording.ListedPage.{ListedPage}
 use Rattle.replay.specs.Opening.{zero_page}
-use Rattle.replay.specs.Calls.{◌else_try◌}
 use Rattle.replay.specs.Run.{Onward, Goes, Breaks, onward}
 
 -- ---- what a checkpoint records. Checkpoint 1 is the first listed one, and the last is that of the end
@@ -56,7 +56,7 @@ part_diff part recorded replayed = if recorded == replayed then None else Some (
 
 -- the first of some parts that differs, the first of them being this one
 abbrev pub parts_diff : ℕ → List ℕ → List ℕ → Option PartDiff
-parts_diff part (x ∷ xs) (y ∷ ys) = part_diff part x y else_try parts_diff (part + 1) xs ys
+parts_diff part (x ∷ xs) (y ∷ ys) = option_or (part_diff part x y) (parts_diff (part + 1) xs ys)
 parts_diff part _ _ = None
 
 -- the first byte that differs, from an address on
@@ -72,7 +72,7 @@ page_diff opened rec k number None = if is_listed (listings rec k) number then S
 -- the first of some pages that differs
 abbrev pub pages_diff : Pages → Recording → ℕ → State → List ℕ → Option PartDiff
 pages_diff opened rec k s [] = None
-pages_diff opened rec k s (number ∷ numbers) = page_diff opened rec k number (get s.pages number) else_try pages_diff opened rec k s numbers
+pages_diff opened rec k s (number ∷ numbers) = option_or (page_diff opened rec k number (get s.pages number)) (pages_diff opened rec k s numbers)
 
 -- every number that a page may have
 unfoldable pub PAGE_NUMBERS : List ℕ
@@ -82,16 +82,16 @@ PAGE_NUMBERS = range_with_len 0 (2 ^ 20)
 -- of the next call
 unfoldable pub machine_diff : CheckpointData → State → Option PartDiff
 machine_diff checkpoint s =
-    part_diff 0 checkpoint.pc s.pc
-    else_try parts_diff 1 checkpoint.x (drop 1 s.x)
-    else_try part_diff 32 checkpoint.brk s.brk
-    else_try part_diff 33 checkpoint.brk_end s.brk_end
-    else_try part_diff 34 checkpoint.next_call s.next_call
+    option_or (part_diff 0 checkpoint.pc s.pc)
+    (option_or (parts_diff 1 checkpoint.x (drop 1 s.x))
+    (option_or (part_diff 32 checkpoint.brk s.brk)
+    (option_or (part_diff 33 checkpoint.brk_end s.brk_end)
+    (part_diff 34 checkpoint.next_call s.next_call))))
 
 -- The least part of a state that differs from checkpoint k: those above, and then the pages by rising number, 35 a byte
 -- and 36 whether one is mapped.
 unfoldable pub checkpoint_diff : Pages → Recording → ℕ → CheckpointData → State → Option PartDiff
-checkpoint_diff opened rec k checkpoint s = machine_diff checkpoint s else_try pages_diff opened rec k s PAGE_NUMBERS
+checkpoint_diff opened rec k checkpoint s = option_or (machine_diff checkpoint s) (pages_diff opened rec k s PAGE_NUMBERS)
 
 abbrev pub as_checkpoint_break : ℕ → Option PartDiff → Option BreakKind
 as_checkpoint_break k None = None
@@ -104,8 +104,7 @@ checkpoint_break opened rec k checkpoint s = as_checkpoint_break k (checkpoint_d
 abbrev pub listed_break : Pages → Recording → ℕ → List CheckpointData → State → Option BreakKind
 listed_break opened rec k [] s = None
 listed_break opened rec k (checkpoint ∷ checkpoints) s =
-    (if checkpoint.count == s.count then checkpoint_break opened rec k checkpoint s else None)
-    else_try listed_break opened rec (k + 1) checkpoints s
+    option_or (if checkpoint.count == s.count then checkpoint_break opened rec k checkpoint s else None) (listed_break opened rec (k + 1) checkpoints s)
 
 -- ---- the end
 
@@ -135,7 +134,7 @@ calls_left rec s = if nat_lt s.next_call (length rec.calls) then Some (CallsLeft
 
 -- the end and the calls, at the recorded end
 abbrev pub end_break : Recording → State → Option BreakKind
-end_break rec s = end_differs rec.end (replayed_end rec.end s.status (step s)) else_try calls_left rec s
+end_break rec s = option_or (end_differs rec.end (replayed_end rec.end s.status (step s))) (calls_left rec s)
 
 -- ---- the first break
 
@@ -156,7 +155,7 @@ break_after s follow (Breaks kind) = at_count s (Some kind)
 -- The first break from a state on with so many instructions left before the recorded end. At each count the checkpoint
 -- is tried, and then the next instruction or, at the end, the end and the calls.
 unfoldable pub first_break_from : Pages → Recording → State → ℕ → Option Break
-first_break_from opened rec s zero = at_count s (checkpoint_break opened rec (length rec.checkpoints + 1) rec.last s else_try end_break rec s)
+first_break_from opened rec s zero = at_count s (option_or (checkpoint_break opened rec (length rec.checkpoints + 1) rec.last s) (end_break rec s))
 first_break_from opened rec s (suc n) = listed_or s (listed_break opened rec 1 rec.checkpoints s) (break_after s (λ t. first_break_from opened rec t n) (onward rec s))
 
 -- the first break of a recording that is replayed from this state
