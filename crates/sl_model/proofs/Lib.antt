@@ -1,2 +1,7 @@
 mod Rows
 pub mod Meanings
+pub mod Values
+pub mod Memory
+pub mod Steps
+pub mod Counted
+pub mod Fitting

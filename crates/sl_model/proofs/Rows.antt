@@ -1,21 +1,21 @@
 -- The definitions on rows that were worked by hand from the RISC-V manual.
-use Rattle.std.proofs.Common.{◌≡◌, ℕ, ◌-◌, ◌^◌, List, [], ◌∷◌, replicate, Some, None, refl, true, false}
+use Rattle.std.proofs.Common.{◌≡◌, ℕ, List, [], ◌∷◌, replicate, Some, None, refl}
 use Rattle.std.specs.Ordering.{nat_cmp}
 use Rattle.std.specs.FinMap.{empty, from_sorted, get, get-empty, get-from_sorted}
-use Rattle.std.specs.Prelude.{slice_set}
-use Rattle.sl_model.specs.declared.instr.BranchOp.TheVariants.{Beq, Bne, Blt, Bge, Bltu, Bgeu}
-use Rattle.sl_model.specs.declared.instr.LoadOp.TheVariants.{Lb, Lh, Lw, Lbu, Lhu}
-use Rattle.sl_model.specs.declared.instr.ImmediateOp.TheVariants.{Addi, Slti, Sltiu}
-use Rattle.sl_model.specs.declared.instr.ShiftOp.TheVariants.{Slli, Srli, Srai}
-use Rattle.sl_model.specs.declared.instr.RegisterOp.TheVariants.{Add, Sub, Sll, Slt, Sra}
-use Rattle.sl_model.specs.declared.instr.MultiplyOp.TheVariants.{Mul, Mulh, Mulhsu, Mulhu, Div, Divu, Rem, Remu}
-use Rattle.sl_model.specs.declared.instr.Instr.TheVariants.{Lui, Jal, Jalr, Branch, Load, Store, Immediate, Shift, Register, Multiply, Fence, Ecall, Ebreak}
+use Rattle.std.specs.Prelude.{slice_set, pos, negsuc}
+use Rattle.sl_model.specs.declared.instr.BranchOp.TheVariants.{Beq, Bne}
+use Rattle.sl_model.specs.declared.instr.LoadOp.TheVariants.{Lb, Lw}
+use Rattle.sl_model.specs.declared.instr.ImmediateOp.TheVariants.{Addi, Sltiu}
+use Rattle.sl_model.specs.declared.instr.ShiftOp.TheVariants.{Srai}
+use Rattle.sl_model.specs.declared.instr.RegisterOp.TheVariants.{Sub, Sll, Slt, Sra}
+use Rattle.sl_model.specs.declared.instr.MultiplyOp.TheVariants.{Mul, Mulh, Mulhsu, Mulhu, Div, Rem}
+use Rattle.sl_model.specs.declared.instr.Instr.TheVariants.{Lui, Jal, Jalr, Branch, Load, Immediate, Shift, Ecall, Ebreak}
 use Rattle.sl_model.specs.declared.run_state.RunState.TheVariants.{Running}
-use Rattle.sl_model.specs.Pages.{Pages, byte_at, bytes_at, load_at, set_byte}
-use Rattle.sl_model.specs.Words.{meaning, branch_meaning, branch_op, load_op, immediate_meaning, shift_op, immediate_op, fence_meaning, system_meaning}
-use Rattle.sl_model.specs.Arithmetic.{multiply_value, register_value, shift_value, immediate_value, immediate_word, branch_word, jump_word, load_value, is_taken}
+use Rattle.sl_model.specs.Pages.{Pages, byte_at, bytes_at, load_at}
+use Rattle.sl_model.specs.Words.{meaning, branch_meaning, branch_op, immediate_meaning, shift_op, immediate_op, fence_meaning, system_meaning}
+use Rattle.sl_model.specs.Arithmetic.{word_of, multiply_value, register_value, shift_value, immediate_value, immediate_word, branch_word, jump_word, load_value}
 use Rattle.sl_model.specs.State.{State}
-use Rattle.sl_model.specs.Step.{Next, Stepped, Called, Trapped, execute, step}
+use Rattle.sl_model.specs.Step.{Stepped, Called, Trapped, execute, step}
 
 -- the least number by -1, and division by zero
 least_by_minus_one : multiply_value Div 0x80000000 0xffffffff ≡ 0x80000000
@@ -62,6 +62,19 @@ five_bits = refl
 
 five_bits_right : register_value Sra 0x80000000 36 ≡ 0xf8000000
 five_bits_right = refl
+
+ones_right : register_value Sra 0xffffffff 1 ≡ 0xffffffff
+ones_right = refl
+
+-- whole numbers as words
+above_words : word_of (pos 0x100000005) ≡ 5
+above_words = refl
+
+minus_one_word : word_of (negsuc 0) ≡ 0xffffffff
+minus_one_word = refl
+
+below_words : word_of (negsuc 0x100000000) ≡ 0xffffffff
+below_words = refl
 
 wraps : register_value Sub 0 1 ≡ 0xffffffff
 wraps = refl

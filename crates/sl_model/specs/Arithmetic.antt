@@ -1,5 +1,5 @@
 -- What the operations of RV32IM give, on words from 0 to 2 ^ 32 - 1 ("RV32I Base Integer Instruction Set" and the "M" extension).
-use Rattle.std.specs.Prelude.{ℕ, ◌+◌, ◌-◌, ◌*◌, ◌/◌, ◌%◌, ◌^◌, ◌==◌, if◌then◌else◌, nat_lt, not, Bool, int_lt, int_div, int_rem, bit_and, bit_or, bit_xor, ℤ, pos, ◌*ℤ◌}
+use Rattle.std.specs.Prelude.{ℕ, ◌+◌, ◌-◌, ◌*◌, ◌/◌, ◌%◌, ◌^◌, ◌==◌, if◌then◌else◌, nat_lt, not, Bool, int_lt, int_div, int_rem, bit_and, bit_or, bit_xor, ℤ, pos, negsuc, ◌*ℤ◌}
 use Rattle.std.specs.Int.{w32, w64, cast_signed, cast_unsigned, int_shr}
 use Rattle.sl_model.specs.declared.instr.BranchOp.{BranchOp}
 use Rattle.sl_model.specs.declared.instr.BranchOp.TheVariants.{Beq, Bne, Blt, Bge, Bltu, Bgeu}
@@ -22,7 +22,8 @@ signed word = cast_signed w32 word
 
 -- the word of a whole number, modulo 2 ^ 32
 abbrev pub word_of : ℤ → ℕ
-word_of z = cast_unsigned w32 z
+word_of (pos n) = n % 2 ^ 32
+word_of (negsuc n) = 2 ^ 32 - 1 - n % 2 ^ 32
 
 -- the sum of two words, modulo 2 ^ 32
 abbrev pub word_add : ℕ → ℕ → ℕ

@@ -1,10 +1,9 @@
 -- What follows from the definition of marks that go on.
-use Rattle.std.proofs.Common.{◌≡◌, ℕ, ◌<◌, ◌++◌, List, Bool, ◌⊎◌, inl, inr, ⊎_elim, refl, sym, ap, ◌∙◌, [], append_assoc, append-nil}
-use Rattle.std.specs.Prelude.{Contains, IsTrue}
+use Rattle.std.proofs.Common.{◌≡◌, ℕ, ◌++◌, List, Bool, inl, inr, ⊎_elim, refl, sym, ap, ◌∙◌, [], append_assoc, append-nil}
+use Rattle.std.specs.Prelude.{Contains}
 use Rattle.std.specs.FinMap.{get}
 use Rattle.std.proofs.lemmas.List.Elements.{Contains-append_left}
 use Rattle.sl_model.specs.Pages.{Pages}
-use Rattle.sl_model.specs.declared.layout.TheConstants.{PROGRAM_PAGES}
 use Rattle.sl_model.specs.Marks.{MarksGoOn}
 
 -- where nothing changed

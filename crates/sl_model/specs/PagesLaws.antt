@@ -2,7 +2,6 @@
 use Rattle.std.proofs.Common.{◌≡◌, ℕ, zero, suc, ◌+◌, ◌*◌, ◌/◌, ◌%◌, ◌<◌, ◌≤◌, List, [], ◌∷◌, ◌++◌, length, Some, None, refl, ap, ◌∙◌, sym, arith, take, drop, drop-cons, add-one, add-zero, eqb, append_assoc, zero-add, true, false, slice_get, slice_set}
 use Rattle.std.specs.Prelude.{Option, IfSome, IsSome, is_some, unwrap_or, Bool, ◌&&◌}
 use Rattle.std.specs.Option.{option_and_then, option_map}
-use Rattle.std.specs.Ordering.{nat_cmp}
 use Rattle.std.specs.Cmp.{nat_cmp_total}
 use Rattle.std.specs.FinMap.{get, insert, gets, same_map, nat_cmp-IsAntisymmetric}
 use Rattle.std.proofs.lemmas.Option.{slice_get-get_or}

@@ -15,7 +15,10 @@ pub use bus::Bus;
 pub use instr::{
     BranchOp, ImmediateOp, Instr, LoadOp, MultiplyOp, Register, RegisterOp, ShiftOp, StoreOp,
 };
-pub use laws::{one_meaning, one_word, words_mean};
+pub use laws::{
+    one_meaning, one_word, operations_give_words, steps_keep_the_layout, steps_lead_to_states,
+    stores_are_loaded, words_mean,
+};
 pub use layout::{
     FIRST_STACK_PAGE, HEAP_SIZE, Layout, MEMORY_END, MOST_LOADED_PAGES, MOST_PAGES, PAGE_SIZE,
     PROGRAM_PAGES, STACK_END, STACK_PAGES, STACK_START,
