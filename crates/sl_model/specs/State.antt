@@ -80,3 +80,14 @@ pub record Fits (s : State) : Type 0 where
   pub heap : (page : ℕ) → s.layout.brk_start ≤ page * PAGE_SIZE → page * PAGE_SIZE < s.layout.heap_limit
       → IsSome (get s.pages page) ↔ (page * PAGE_SIZE < s.brk_end)
   pub few : length (filter (is_outside_heap s.layout) (keys s.pages)) ≤ MOST_LOADED_PAGES
+
+-- A program before its first instruction: a state that fits and runs, with no instruction done, no call answered, and
+-- none of its heap mapped.
+pub record IsOpening (s : State) : Type 0 where
+  pub state : IsState s
+  pub fits : Fits s
+  pub running : s.status ≡ Running
+  pub count : s.count ≡ 0
+  pub next_call : s.next_call ≡ 0
+  pub brk : s.brk ≡ s.layout.brk_start
+  pub no_heap : s.brk_end ≡ s.layout.brk_start
