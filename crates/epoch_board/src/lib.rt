@@ -1,0 +1,10 @@
+//! The board from which threads claim epochs: each epoch is claimed at most once, whatever the threads do.
+#![tactic(auto)]
+
+mod board;
+mod plays;
+#[cfg(test)]
+mod tests;
+mod view;
+
+pub use board::{Board, BoardSeat};
