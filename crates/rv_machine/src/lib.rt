@@ -11,7 +11,6 @@ mod tests;
 mod traps;
 
 pub use machine::{Machine, Outcome};
-
 pub use stepping::step;
 pub use stores::store_of;
 pub use traps::next_trap;

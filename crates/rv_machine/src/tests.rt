@@ -2,36 +2,30 @@
 
 ghost use Rattle.std.specs.Prelude.{◌≡◌, ◌<◌, ◌^◌};
 
-use crate::{Machine, Outcome, step, store_of};
-use page_frames::Frames;
+use crate::{Machine, Outcome, next_trap, step, store_of};
 use rv_decode::encode;
-use sl_base::{Memory, Steps};
+use sl_base::Steps;
 use sl_model::{
     Bits, BranchOp, Bus, ImmediateOp, Instr, Layout, LoadOp, MultiplyOp, Register, RegisterOp,
     RunState, ShiftOp, StoreOp,
 };
-use std::alloc::Global;
 use std::marker::Brand;
 use std::process::Abort;
 use std::sync::ledger::{Blank, Ledger};
 use std::test::Fail;
 
+mod one_page;
 mod values;
 
-/// Where the instruction stands, in the first of two pages.
+use one_page::OnePage;
+
+/// Where the instruction stands, at the start of the page.
 const PLACE: u32 = 0x10000;
 
 /// The greatest word, which is -1, and the least number with a sign.
 const ONES: u32 = 0xffff_ffff;
 
 const LEAST: u32 = 0x8000_0000;
-
-fn two_pages(alloc: Global) -> Result<Frames, Memory> {
-    let mut frames = Frames::new(alloc)?;
-    frames.map_page(16)?;
-    frames.map_page(17)?;
-    Ok(frames)
-}
 
 /// A machine at some place, with these values in x1 and x2.
 fn machine_at(pc: u32, first: u32, second: u32) -> Machine
@@ -57,7 +51,7 @@ fn machine_at(pc: u32, first: u32, second: u32) -> Machine
 }
 
 /// One step, on a count of its own.
-fn step_on<L: Ledger>(m: &mut Machine, frames: &mut Frames, blank: Blank) -> Outcome
+fn step_on<L: Ledger>(m: &mut Machine, memory: &mut OnePage, blank: Blank) -> Outcome
     requires name { blank.name ≡ L.name }
     requires parts { blank.parts ≡ L.parts }
     requires some_parts { 0 < blank.parts }
@@ -65,27 +59,27 @@ fn step_on<L: Ledger>(m: &mut Machine, frames: &mut Frames, blank: Blank) -> Out
     requires count { m.old.count < 2 ^ 62 }
 {
     let mut steps = Steps::<L>::new(blank);
-    step(m, frames, &mut steps)
+    step(m, memory, &mut steps)
 }
 
-fn one_step(m: &mut Machine, frames: &mut Frames) -> Outcome
+fn one_step(m: &mut Machine, memory: &mut OnePage) -> Outcome
     requires running { m.old.status ≡ RunState.Running }
     requires count { m.old.count < 2 ^ 62 }
 {
-    step_on::<Brand>(m, frames, Blank::new(1))
+    step_on::<Brand>(m, memory, Blank::new(1))
 }
 
 /// What an instruction does, with these values in x1 and x2.
-fn run(frames: &mut Frames, instr: Instr, first: u32, second: u32) -> (Outcome, Machine) {
-    let _ = frames.store(PLACE, 4, encode(&instr));
+fn run(memory: &mut OnePage, instr: Instr, first: u32, second: u32) -> (Outcome, Machine) {
+    let _ = memory.store(PLACE, 4, encode(&instr));
     let mut m = machine_at(PLACE, first, second);
-    let outcome = one_step(&mut m, frames);
+    let outcome = one_step(&mut m, memory);
     (outcome, m)
 }
 
 /// The value that an instruction puts into x3.
-fn value(rt: &impl Abort, frames: &mut Frames, instr: Instr, first: u32, second: u32) -> u32 {
-    let (outcome, m) = run(frames, instr, first, second);
+fn value(rt: &impl Abort, memory: &mut OnePage, instr: Instr, first: u32, second: u32) -> u32 {
+    let (outcome, m) = run(memory, instr, first, second);
     assert_eq!(rt; outcome, Outcome::Stepped);
     assert_eq!(rt; (m.pc, m.count), (PLACE + 4, 8));
     m.x[3]
@@ -94,22 +88,33 @@ fn value(rt: &impl Abort, frames: &mut Frames, instr: Instr, first: u32, second:
 /// Where a jump or a branch goes, and what it leaves in x3.
 fn target(
     rt: &impl Abort,
-    frames: &mut Frames,
+    memory: &mut OnePage,
     instr: Instr,
     first: u32,
     second: u32,
 ) -> (u32, u32) {
-    let (outcome, m) = run(frames, instr, first, second);
+    let (outcome, m) = run(memory, instr, first, second);
     assert_eq!(rt; outcome, Outcome::Stepped);
     (m.pc, m.x[3])
 }
 
 /// An instruction that changes nothing.
-fn changes_nothing(rt: &impl Abort, frames: &mut Frames, word: u32, first: u32, expected: Outcome) {
-    let _ = frames.store(PLACE, 4, word);
+fn changes_nothing(
+    rt: &impl Abort,
+    memory: &mut OnePage,
+    word: u32,
+    first: u32,
+    expected: Outcome,
+) {
+    let _ = memory.store(PLACE, 4, word);
     let before = machine_at(PLACE, first, 0);
     let mut m = before;
-    assert_eq!(rt; one_step(&mut m, frames), expected);
+    let trap = match expected {
+        Outcome::Trap(number) => Some(number),
+        _ => None,
+    };
+    assert_eq!(rt; next_trap(&before, memory), trap);
+    assert_eq!(rt; one_step(&mut m, memory), expected);
     assert_eq!(rt; m, before);
 }
 
@@ -119,8 +124,8 @@ fn x(number: u32) -> Register {
 
 #[test]
 fn jumps_and_branches(rt: HostRuntime) -> Result<(), Fail> {
-    let mut frames = two_pages(rt.alloc())?;
-    let f = &mut frames;
+    let mut page = OnePage::zeros();
+    let memory = &mut page;
 
     // jal by half an offset; jalr from x1 with bit 0 cleared, also where it writes x1 itself
     for (offset, to) in [
@@ -133,7 +138,7 @@ fn jumps_and_branches(rt: HostRuntime) -> Result<(), Fail> {
             rd: x(3),
             offset: Bits::<20>::low(offset),
         };
-        assert_eq!(rt; target(&rt, f, jal, 0, 0), (to, 0x10004));
+        assert_eq!(rt; target(&rt, memory, jal, 0, 0), (to, 0x10004));
     }
     for (base, offset, to) in [
         (0x20000, 5, 0x20004),
@@ -146,7 +151,7 @@ fn jumps_and_branches(rt: HostRuntime) -> Result<(), Fail> {
             rs1: x(1),
             offset: Bits::<12>::low(offset),
         };
-        let (outcome, m) = run(f, jalr, base, 0);
+        let (outcome, m) = run(memory, jalr, base, 0);
         assert_eq!(rt; outcome, Outcome::Stepped);
         assert_eq!(rt; (m.pc, m.x[1]), (to, 0x10004));
     }
@@ -175,15 +180,15 @@ fn jumps_and_branches(rt: HostRuntime) -> Result<(), Fail> {
             offset: Bits::<12>::low(0xffc),
         };
         let to = if is_taken { 0xfff8 } else { 0x10004 };
-        assert_eq!(rt; target(&rt, f, branch, first, second), (to, 0));
+        assert_eq!(rt; target(&rt, memory, branch, first, second), (to, 0));
     }
     Ok(())
 }
 
 #[test]
 fn misaligned_targets(rt: HostRuntime) -> Result<(), Fail> {
-    let mut frames = two_pages(rt.alloc())?;
-    let f = &mut frames;
+    let mut page = OnePage::zeros();
+    let memory = &mut page;
     let branch = Instr::Branch {
         op: BranchOp::Beq,
         rs1: x(1),
@@ -199,31 +204,33 @@ fn misaligned_targets(rt: HostRuntime) -> Result<(), Fail> {
         rs1: x(0),
         offset: Bits::<12>::low(2),
     };
-    changes_nothing(&rt, f, encode(&branch), 0, Outcome::Trap(0));
-    changes_nothing(&rt, f, encode(&jal), 0, Outcome::Trap(0));
-    changes_nothing(&rt, f, encode(&jalr), 0, Outcome::Trap(0));
+    changes_nothing(&rt, memory, encode(&branch), 0, Outcome::Trap(0));
+    changes_nothing(&rt, memory, encode(&jal), 0, Outcome::Trap(0));
+    changes_nothing(&rt, memory, encode(&jalr), 0, Outcome::Trap(0));
 
     // a branch that is not taken goes on
-    assert_eq!(rt; target(&rt, f, branch, 1, 0), (0x10004, 0));
+    assert_eq!(rt; next_trap(&machine_at(PLACE, 1, 0), memory), Some(0));
+    assert_eq!(rt; target(&rt, memory, branch, 1, 0), (0x10004, 0));
+    assert_eq!(rt; next_trap(&machine_at(PLACE, 1, 0), memory), None);
     Ok(())
 }
 
 #[test]
 fn loads_and_stores(rt: HostRuntime) -> Result<(), Fail> {
-    let mut frames = two_pages(rt.alloc())?;
-    let f = &mut frames;
-    let _ = f.store(0x10ffe, 4, 0x80ff_7f81);
+    let mut page = OnePage::zeros();
+    let memory = &mut page;
+    let _ = memory.store(0x10100, 4, 0x80ff_7f81);
 
-    // from x1 - 1, also over the end of a page
+    // from x1 - 1
     for (op, base, expected) in [
-        (LoadOp::Lb, 0x10fff, 0xffff_ff81),
-        (LoadOp::Lbu, 0x10fff, 0x81),
-        (LoadOp::Lb, 0x11000, 0x7f),
-        (LoadOp::Lh, 0x10fff, 0x7f81),
-        (LoadOp::Lh, 0x11001, 0xffff_80ff),
-        (LoadOp::Lhu, 0x11001, 0x80ff),
-        (LoadOp::Lw, 0x10fff, 0x80ff_7f81),
-        (LoadOp::Lw, 0x11000, 0x0080_ff7f),
+        (LoadOp::Lb, 0x10101, 0xffff_ff81),
+        (LoadOp::Lbu, 0x10101, 0x81),
+        (LoadOp::Lb, 0x10102, 0x7f),
+        (LoadOp::Lh, 0x10101, 0x7f81),
+        (LoadOp::Lh, 0x10103, 0xffff_80ff),
+        (LoadOp::Lhu, 0x10103, 0x80ff),
+        (LoadOp::Lw, 0x10101, 0x80ff_7f81),
+        (LoadOp::Lw, 0x10102, 0x0080_ff7f),
     ] {
         let load = Instr::Load {
             op,
@@ -231,14 +238,14 @@ fn loads_and_stores(rt: HostRuntime) -> Result<(), Fail> {
             rs1: x(1),
             offset: Bits::<12>::low(0xfff),
         };
-        assert_eq!(rt; value(&rt, f, load, base, 0), expected);
+        assert_eq!(rt; value(&rt, memory, load, base, 0), expected);
     }
 
     // to x1 + 1
     for (op, base, stored) in [
-        (StoreOp::Sb, 0x10ffd, 0x80ff_7f44),
-        (StoreOp::Sh, 0x10ffe, 0x8033_4444),
-        (StoreOp::Sw, 0x10ffd, 0x1122_3344),
+        (StoreOp::Sb, 0x100ff, 0x80ff_7f44),
+        (StoreOp::Sh, 0x10100, 0x8033_4444),
+        (StoreOp::Sw, 0x100ff, 0x1122_3344),
     ] {
         let store = Instr::Store {
             op,
@@ -246,12 +253,12 @@ fn loads_and_stores(rt: HostRuntime) -> Result<(), Fail> {
             rs2: x(2),
             offset: Bits::<12>::low(1),
         };
-        assert_eq!(rt; value(&rt, f, store, base, 0x1122_3344), 0);
-        assert_eq!(rt; f.load(0x10ffe, 4), Some(stored));
+        assert_eq!(rt; value(&rt, memory, store, base, 0x1122_3344), 0);
+        assert_eq!(rt; memory.load(0x10100, 4), Some(stored));
     }
 
     // a page that is not mapped, in part, and beyond 2 ^ 32
-    for base in [0x0fffe, 0x11ffe, 0xffff_fffe] {
+    for base in [0x0fffe, 0x10ffe, 0xffff_fffe] {
         let load = Instr::Load {
             op: LoadOp::Lw,
             rd: x(3),
@@ -264,31 +271,35 @@ fn loads_and_stores(rt: HostRuntime) -> Result<(), Fail> {
             rs2: x(1),
             offset: Bits::<12>::low(0),
         };
-        changes_nothing(&rt, f, encode(&load), base, Outcome::Trap(5));
-        changes_nothing(&rt, f, encode(&store), base, Outcome::Trap(7));
-        assert_eq!(rt; store_of(&machine_at(PLACE, base, 0), f), Some((base, 4)));
+        changes_nothing(&rt, memory, encode(&load), base, Outcome::Trap(5));
+        changes_nothing(&rt, memory, encode(&store), base, Outcome::Trap(7));
+        assert_eq!(rt;
+            store_of(&machine_at(PLACE, base, 0), memory),
+            Some((base, 4))
+        );
     }
-    assert_eq!(rt; f.load(0x11ffe, 2), Some(0));
+    assert_eq!(rt; memory.load(0x10ffe, 2), Some(0));
     Ok(())
 }
 
 #[test]
 fn calls_and_other_traps(rt: HostRuntime) -> Result<(), Fail> {
-    let mut frames = two_pages(rt.alloc())?;
-    let f = &mut frames;
-    changes_nothing(&rt, f, 0x0000_0073, 0, Outcome::Call);
-    changes_nothing(&rt, f, 0x0010_0073, 0, Outcome::Trap(3));
-    changes_nothing(&rt, f, 0x0000_0000, 0, Outcome::Trap(2));
-    changes_nothing(&rt, f, 0x0000_100f, 0, Outcome::Trap(2));
-    changes_nothing(&rt, f, 0xffff_ffff, 0, Outcome::Trap(2));
-    assert_eq!(rt; store_of(&machine_at(PLACE, 0, 0), f), None);
+    let mut page = OnePage::zeros();
+    let memory = &mut page;
+    changes_nothing(&rt, memory, 0x0000_0073, 0, Outcome::Call);
+    changes_nothing(&rt, memory, 0x0010_0073, 0, Outcome::Trap(3));
+    changes_nothing(&rt, memory, 0x0000_0000, 0, Outcome::Trap(2));
+    changes_nothing(&rt, memory, 0x0000_100f, 0, Outcome::Trap(2));
+    changes_nothing(&rt, memory, 0xffff_ffff, 0, Outcome::Trap(2));
+    assert_eq!(rt; store_of(&machine_at(PLACE, 0, 0), memory), None);
 
     // a pc where nothing is mapped, one at a page's end, and one that is no multiple of 4
-    for (pc, trap) in [(0x12000, 1), (0xffff_fffc, 1), (0x10002, 0), (0x12001, 0)] {
+    for (pc, trap) in [(0x11000, 1), (0xffff_fffc, 1), (0x10002, 0), (0x11001, 0)] {
         let mut m = machine_at(pc, 0, 0);
-        assert_eq!(rt; one_step(&mut m, f), Outcome::Trap(trap));
+        assert_eq!(rt; next_trap(&m, memory), Some(trap));
+        assert_eq!(rt; one_step(&mut m, memory), Outcome::Trap(trap));
         assert_eq!(rt; m, machine_at(pc, 0, 0));
-        assert_eq!(rt; store_of(&m, f), None);
+        assert_eq!(rt; store_of(&m, memory), None);
     }
     Ok(())
 }

@@ -8,9 +8,7 @@ use crate::arithmetic;
 use crate::execute::{address, register};
 use crate::machine::Machine;
 use rv_decode::decode;
-use sl_model::{
-    BREAKPOINT, Bus, FETCH, ILLEGAL, Instr, LOAD_FAULT, MISALIGNED, STORE_FAULT,
-};
+use sl_model::{BREAKPOINT, Bus, FETCH, ILLEGAL, Instr, LOAD_FAULT, MISALIGNED, STORE_FAULT};
 
 /// The trap of a jump to a place, where that is no multiple of 4.
 fn trap_of_jump(target: u32) -> Option<u32>
@@ -49,13 +47,19 @@ fn trap_of_instr<B: Bus>(m: &Machine, bus: &B, instr: Instr) -> Option<u32>
             }
         }
         Instr::Load {
-            op, rs1, offset, ..
+            op,
+            rs1,
+            offset,
+            ..
         } => match bus.load(address(m, rs1, offset), arithmetic::load_width(op)) {
             Some(_) => None,
             None => Some(LOAD_FAULT),
         },
         Instr::Store {
-            op, rs1, offset, ..
+            op,
+            rs1,
+            offset,
+            ..
         } => match bus.load(address(m, rs1, offset), arithmetic::store_width(op)) {
             Some(_) => None,
             None => Some(STORE_FAULT),

@@ -1,6 +1,7 @@
 //! The values of operations: zero, the greatest values, the edge of the sign, and what divides by zero.
 
-use super::{LEAST, ONES, PLACE, run, two_pages, value, x};
+use super::one_page::OnePage;
+use super::{LEAST, ONES, PLACE, run, value, x};
 use crate::Outcome;
 use sl_model::{Bits, ImmediateOp, Instr, MultiplyOp, RegisterOp, ShiftOp};
 use std::test::Fail;
@@ -9,7 +10,8 @@ const GREATEST: u32 = 0x7fff_ffff;
 
 #[test]
 fn registers(rt: HostRuntime) -> Result<(), Fail> {
-    let mut frames = two_pages(rt.alloc())?;
+    let mut page = OnePage::zeros();
+    let memory = &mut page;
     for (op, first, second, expected) in [
         (RegisterOp::Add, 0, 0, 0),
         (RegisterOp::Add, ONES, 1, 0),
@@ -35,6 +37,7 @@ fn registers(rt: HostRuntime) -> Result<(), Fail> {
         (RegisterOp::Sra, LEAST, 31, ONES),
         (RegisterOp::Sra, LEAST, 0x24, 0xf800_0000),
         (RegisterOp::Sra, GREATEST, 31, 0),
+        (RegisterOp::Sra, ONES, 1, ONES),
         (RegisterOp::Or, LEAST, GREATEST, ONES),
         (RegisterOp::Or, 0, 0, 0),
         (RegisterOp::And, ONES, LEAST, LEAST),
@@ -46,14 +49,15 @@ fn registers(rt: HostRuntime) -> Result<(), Fail> {
             rs1: x(1),
             rs2: x(2),
         };
-        assert_eq!(rt; value(&rt, &mut frames, instr, first, second), expected);
+        assert_eq!(rt; value(&rt, memory, instr, first, second), expected);
     }
     Ok(())
 }
 
 #[test]
 fn products(rt: HostRuntime) -> Result<(), Fail> {
-    let mut frames = two_pages(rt.alloc())?;
+    let mut page = OnePage::zeros();
+    let memory = &mut page;
     for (op, first, second, expected) in [
         (MultiplyOp::Mul, 0, ONES, 0),
         (MultiplyOp::Mul, ONES, ONES, 1),
@@ -79,14 +83,15 @@ fn products(rt: HostRuntime) -> Result<(), Fail> {
             rs1: x(1),
             rs2: x(2),
         };
-        assert_eq!(rt; value(&rt, &mut frames, instr, first, second), expected);
+        assert_eq!(rt; value(&rt, memory, instr, first, second), expected);
     }
     Ok(())
 }
 
 #[test]
 fn quotients(rt: HostRuntime) -> Result<(), Fail> {
-    let mut frames = two_pages(rt.alloc())?;
+    let mut page = OnePage::zeros();
+    let memory = &mut page;
     for (op, first, second, expected) in [
         (MultiplyOp::Div, LEAST, ONES, LEAST),
         (MultiplyOp::Div, LEAST, 0, ONES),
@@ -112,14 +117,15 @@ fn quotients(rt: HostRuntime) -> Result<(), Fail> {
             rs1: x(1),
             rs2: x(2),
         };
-        assert_eq!(rt; value(&rt, &mut frames, instr, first, second), expected);
+        assert_eq!(rt; value(&rt, memory, instr, first, second), expected);
     }
     Ok(())
 }
 
 #[test]
 fn immediates(rt: HostRuntime) -> Result<(), Fail> {
-    let mut frames = two_pages(rt.alloc())?;
+    let mut page = OnePage::zeros();
+    let memory = &mut page;
     for (op, first, imm, expected) in [
         (ImmediateOp::Addi, 0, 0, 0),
         (ImmediateOp::Addi, 0, 0xfff, ONES),
@@ -146,7 +152,7 @@ fn immediates(rt: HostRuntime) -> Result<(), Fail> {
             rs1: x(1),
             imm,
         };
-        assert_eq!(rt; value(&rt, &mut frames, instr, first, 0), expected);
+        assert_eq!(rt; value(&rt, memory, instr, first, 0), expected);
     }
     for (op, first, amount, expected) in [
         (ShiftOp::Slli, 1, 31, LEAST),
@@ -164,24 +170,27 @@ fn immediates(rt: HostRuntime) -> Result<(), Fail> {
             rs1: x(1),
             amount,
         };
-        assert_eq!(rt; value(&rt, &mut frames, instr, first, 0), expected);
+        assert_eq!(rt; value(&rt, memory, instr, first, 0), expected);
     }
     Ok(())
 }
 
 #[test]
 fn upper_immediates_and_fences(rt: HostRuntime) -> Result<(), Fail> {
-    let mut frames = two_pages(rt.alloc())?;
-    let f = &mut frames;
+    let mut page = OnePage::zeros();
+    let memory = &mut page;
     for (imm, upper, from_pc) in [
         (0, 0, PLACE),
         (0xfffff, 0xffff_f000, 0xf000),
         (0x80000, LEAST, 0x8001_0000),
     ] {
         let imm = Bits::<20>::low(imm);
-        assert_eq!(rt; value(&rt, f, Instr::Lui { rd: x(3), imm }, 0, 0), upper);
         assert_eq!(rt;
-            value(&rt, f, Instr::Auipc { rd: x(3), imm }, 0, 0),
+            value(&rt, memory, Instr::Lui { rd: x(3), imm }, 0, 0),
+            upper
+        );
+        assert_eq!(rt;
+            value(&rt, memory, Instr::Auipc { rd: x(3), imm }, 0, 0),
             from_pc
         );
     }
@@ -189,11 +198,11 @@ fn upper_immediates_and_fences(rt: HostRuntime) -> Result<(), Fail> {
         high: Bits::<17>::low(0x1ff),
         rd: x(3),
     };
-    assert_eq!(rt; value(&rt, f, fence, 0, 0), 0);
+    assert_eq!(rt; value(&rt, memory, fence, 0, 0), 0);
 
     // x0 stays 0
     let (outcome, m) = run(
-        f,
+        memory,
         Instr::Lui {
             rd: x(0),
             imm: Bits::<20>::low(1),
