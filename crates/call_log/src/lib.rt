@@ -6,6 +6,7 @@ mod ask;
 mod breaks;
 mod difference;
 mod entry;
+pub mod part;
 #[cfg(test)]
 mod tests;
 

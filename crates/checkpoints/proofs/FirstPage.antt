@@ -10,10 +10,11 @@ use Rattle.sl_model.specs.Pages.{Pages}
 use Rattle.sl_model.specs.State.{State}
 use Rattle.call_log.specs.declared.breaks.BreakKind.{BreakKind}
 use Rattle.rec_format.specs.declared.recording.Recording.{Recording}
-use Rattle.sl_model.specs.Marks.{PROGRAM_PAGES}
-use Rattle.replay.specs.Breaks.{PartDiff, listings, is_listed, page_diff, pages_diff, as_checkpoint_break, PAGE_NUMBERS}
+use Rattle.sl_model.specs.declared.layout.TheConstants.{PROGRAM_PAGES}
+use Rattle.rec_format.specs.Recorded.{listed_to, is_listed}
+use Rattle.rec_format.specs.Compared.{PartDiff, page_diff, pages_diff, as_checkpoint_break, PAGE_NUMBERS}
 use Rattle.checkpoints.specs.Memory.{mapped_diff, IsFirstUnlike, missing_break, told_first}
-use Rattle.checkpoints.proofs.Listings.{IsLeastMissing}
+use Rattle.checkpoints.proofs.Missing.{IsLeastMissing}
 
 -- ---- over a run of numbers
 
@@ -48,11 +49,11 @@ not_listed true h = absurd (h refl)
 not_listed false h = refl
 
 -- a page that is mapped and does not differ, or that is neither mapped nor listed
-clear : (opened : Pages) (rec : Recording) (k q : ℕ) (page : Option (List ℕ)) → mapped_diff opened rec k q page ≡ None → (is_listed (listings rec k) q ≡ true → is_some page ≡ true) → page_diff opened rec k q page ≡ None
+clear : (opened : Pages) (rec : Recording) (k q : ℕ) (page : Option (List ℕ)) → mapped_diff opened rec k q page ≡ None → (is_listed (listed_to rec k) q ≡ true → is_some page ≡ true) → page_diff opened rec k q page ≡ None
 clear opened rec k q (Some bytes) alike mapped = alike
-clear opened rec k q None alike mapped = rw (not_listed (is_listed (listings rec k) q) (λ e. let h : false ≡ true = mapped e in absurd cc)) refl
+clear opened rec k q None alike mapped = rw (not_listed (is_listed (listed_to rec k) q) (λ e. let h : false ≡ true = mapped e in absurd cc)) refl
 
-missing : (opened : Pages) (rec : Recording) (k q : ℕ) (page : Option (List ℕ)) → is_listed (listings rec k) q ≡ true → is_some page ≡ false
+missing : (opened : Pages) (rec : Recording) (k q : ℕ) (page : Option (List ℕ)) → is_listed (listed_to rec k) q ≡ true → is_some page ≡ false
     → page_diff opened rec k q page ≡ Some (record { part = 36; address = q * 4096; recorded = 1; replayed = 0 })
 missing opened rec k q (Some bytes) listed none = absurd cc
 missing opened rec k q None listed none = rw listed refl
@@ -74,7 +75,7 @@ told_at opened rec k s n kind lt none found =
     ap (as_checkpoint_break k) (first_one opened rec k s n diff.0 lt none diff.1 ∙ sym diff.1) ∙ found
 
 told_missing : (opened : Pages) (rec : Recording) (k : ℕ) (s : State) (n : ℕ) → n < 2 ^ 20 → ((q : ℕ) → q < n → page_diff opened rec k q (get s.pages q) ≡ None)
-    → is_listed (listings rec k) n ≡ true → contains_key s.pages n ≡ false → as_checkpoint_break k (pages_diff opened rec k s PAGE_NUMBERS) ≡ Some (missing_break k n)
+    → is_listed (listed_to rec k) n ≡ true → contains_key s.pages n ≡ false → as_checkpoint_break k (pages_diff opened rec k s PAGE_NUMBERS) ≡ Some (missing_break k n)
 told_missing opened rec k s n lt none listed unmapped =
     told_at opened rec k s n (missing_break k n) lt none (ap (as_checkpoint_break k) (missing opened rec k n (get s.pages n) listed unmapped))
 
@@ -84,11 +85,11 @@ ltb_true a b lt = grind (arith, common_steps)
 ltb_false : (a b : ℕ) → b ≤ a → nat_lt a b ≡ false
 ltb_false a b le = grind (arith, common_steps)
 
-known_missing : (pages : Pages) (rec : Recording) (k n : ℕ) → IsLeastMissing pages None (listings rec k) (Some n) → (is_listed (listings rec k) n ≡ true) × (contains_key pages n ≡ false)
+known_missing : (pages : Pages) (rec : Recording) (k n : ℕ) → IsLeastMissing pages None (listed_to rec k) (Some n) → (is_listed (listed_to rec k) n ≡ true) × (contains_key pages n ≡ false)
 known_missing pages rec k n is = ⊎_elim (λ e. absurd cc) (λ f. f) is.2
 
 -- the first of the least mapped page that differs and the least listed one that is not mapped
-pub told : (opened : Pages) (rec : Recording) (k : ℕ) (s : State) (unlike : Option (ℕ × BreakKind)) (least : Option ℕ) → IsFirstUnlike opened rec k s.pages unlike → IsLeastMissing s.pages None (listings rec k) least
+pub told : (opened : Pages) (rec : Recording) (k : ℕ) (s : State) (unlike : Option (ℕ × BreakKind)) (least : Option ℕ) → IsFirstUnlike opened rec k s.pages unlike → IsLeastMissing s.pages None (listed_to rec k) least
     → IfSome unlike (λ u. u.0 < 2 ^ 20) → IfSome least (λ n. n < 2 ^ 20) → as_checkpoint_break k (pages_diff opened rec k s PAGE_NUMBERS) ≡ told_first k unlike least
 told opened rec k s None None unlikes misses below under =
     ap (as_checkpoint_break k) (all_none opened rec k s (λ q. clear opened rec k q (get s.pages q) (unlikes q) (misses.1 q)))

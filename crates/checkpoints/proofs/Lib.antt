@@ -1,8 +1,8 @@
 pub mod Options
-pub mod Listings
+pub mod Missing
+pub mod Lists
 pub mod FirstPage
 pub mod Filling
-pub mod Recording
 pub mod Copying
 pub mod Opened
 pub mod SmallMemory

@@ -10,12 +10,11 @@ use Rattle.call_log.specs.declared.entry.End.TheVariants as end
 use Rattle.rec_format.specs.declared.recording.Recording.{Recording}
 use Rattle.rec_format.specs.declared.recording.CheckpointData.{CheckpointData}
 use Rattle.rec_format.specs.declared.recording.ListedPage.{ListedPage}
-use Rattle.replay.specs.Opening.{zero_page, map_pages}
-use Rattle.replay.specs.Breaks.{recorded_page}
-use Rattle.replay.specs.Recorded.{recorded_end, recorded_state, recorded_state_of, recorded_count, put_all_listed}
+use Rattle.sl_model.specs.Mapping.{zero_page, map_pages}
+use Rattle.rec_format.specs.Recorded.{recorded_page, recorded_end, recorded_state, recorded_state_of, recorded_count, put_all_listed}
 
 abbrev opened : State
-opened = record { pc = 0x10000; x = 0 ∷ 7 ∷ []; pages = insert empty 16 (1 ∷ []); brk = 0x12000; brk_end = 0x12000; next_call = 0; status = Running; count = 0; brk_start = 0x12000; heap_limit = 0x14000 }
+opened = record { pc = 0x10000; x = 0 ∷ 7 ∷ []; pages = insert empty 16 (1 ∷ []); brk = 0x12000; brk_end = 0x12000; next_call = 0; status = Running; count = 0; layout = record { brk_start = 0x12000; heap_limit = 0x14000 } }
 
 abbrev page : ℕ → ℕ → ListedPage
 page number byte = record { number = number; bytes = byte ∷ [] }

@@ -10,7 +10,7 @@ use Rattle.sl_model.specs.Pages.{Pages}
 use Rattle.sl_model.specs.PagesLaws.{is_some-set_bytes}
 use Rattle.sl_model.specs.State.{State}
 use Rattle.page_frames.specs.MarkedPages.{MarkedPages, with_page, with_bytes}
-use Rattle.checkpoints.specs.RecordedRun.{IsOpening}
+use Rattle.checkpoints.specs.Opening.{IsOpening}
 use Rattle.checkpoints.proofs.Copying.{part_len}
 
 length-filter_le : (p : ℕ → Bool) (xs : List ℕ) → length (filter p xs) ≤ length xs
@@ -53,18 +53,20 @@ len_of_part part whole sub = part_len (len part) part whole refl sub
 heap_page : (q : ℕ) → (q ≡ 16) ⊎ (q ≡ 20) → 0x12000 ≤ q * 4096 → q * 4096 < 0x14000 → ⊥
 heap_page q is from to = ⊎_elim (λ e. omega arith) (λ e. omega arith) is
 
-pub opening_is : (s : State) → s.brk_start ≡ 0x12000 → s.heap_limit ≡ 0x14000 → s.brk_end ≡ 0x12000 → ((page : ℕ) → IsSome (get s.pages page) → (page ≡ 16) ⊎ (page ≡ 20)) → len s.pages ≤ 2 → IsOpening s
+pub opening_is : (s : State) → s.layout.brk_start ≡ 0x12000 → s.layout.heap_limit ≡ 0x14000 → s.brk_end ≡ 0x12000 → ((page : ℕ) → IsSome (get s.pages page) → (page ≡ 16) ⊎ (page ≡ 20)) → len s.pages ≤ 2 → IsOpening s
 opening_is s start limit end pages few =
-    let outer : ℕ → Bool = λ page. not (nat_le s.brk_start (page * 4096) && nat_lt (page * 4096) s.heap_limit) in
+    let outer : ℕ → Bool = λ page. not (nat_le s.layout.brk_start (page * 4096) && nat_lt (page * 4096) s.layout.heap_limit) in
     let long : length (keys s.pages) ≡ len s.pages = length-map (entries s.pages) (λ (e : ℕ × List ℕ). e.0) ∙ sym (len-entries s.pages) in
     let outside = length-filter_le outer (keys s.pages) in
     record {
       fits = record {
-        start = rw start refl;
-        limit = rw limit refl;
-        ordered = omega arith;
-        below_end = omega arith;
-        size = omega arith;
+        layout = record {
+          start = rw start refl;
+          limit = rw limit refl;
+          ordered = omega arith;
+          below_end = omega arith;
+          size = omega arith;
+        };
         mapped_end = rw end refl;
         end_from = omega arith;
         end_to = omega arith;

@@ -1,3 +1,3 @@
+pub mod Opening
 pub mod RecordedRun
-pub mod Fields
 pub mod Memory

@@ -2,11 +2,12 @@
 use Rattle.std.specs.Prelude.{◌≡◌, ℕ, ◌*◌, ◌<◌, List, [], ◌∷◌, Option, Some, None, nat_lt, if◌then◌else◌, IsSome}
 use Rattle.std.specs.FinMap.{get, contains_key}
 use Rattle.sl_model.specs.Pages.{Pages}
+use Rattle.call_log.specs.declared.part.TheConstants.{PAGE}
 use Rattle.call_log.specs.declared.breaks.BreakKind.{BreakKind}
 use Rattle.call_log.specs.declared.breaks.BreakKind.TheVariants.{CheckpointDiffers}
 use Rattle.rec_format.specs.declared.recording.Recording.{Recording}
 use Rattle.rec_format.specs.declared.recording.ListedPage.{ListedPage}
-use Rattle.replay.specs.Breaks.{PartDiff, page_diff, as_checkpoint_break}
+use Rattle.rec_format.specs.Compared.{PartDiff, page_diff, as_checkpoint_break}
 
 -- ---- mapped pages
 
@@ -39,7 +40,7 @@ missing_from pages least (page ∷ listed) = missing_from pages (if contains_key
 
 -- a listed page that is not mapped, as a break
 abbrev pub missing_break : ℕ → ℕ → BreakKind
-missing_break index number = CheckpointDiffers index 36 (number * 4096) 1 0
+missing_break index number = CheckpointDiffers index PAGE (number * 4096) 1 0
 
 -- what is told of a mapped page that differs and one that is not mapped, if there are such
 abbrev pub told_first : ℕ → Option (ℕ × BreakKind) → Option ℕ → Option BreakKind

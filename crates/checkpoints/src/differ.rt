@@ -2,23 +2,40 @@
 
 ghost use Rattle.std.specs.Prelude.{◌≡◌, ◌+◌, ◌*◌, ◌<◌, ◌≤◌, ◌^◌, length, Some, IsSome, IfSome};
 ghost use Rattle.std.specs.FinMap.{get};
+ghost use Rattle.sl_model.specs.Pages.{Pages};
 ghost use Rattle.sl_model.specs.State.{State};
-ghost use Rattle.sl_model.specs.Marks.{PROGRAM_PAGES};
+ghost use Rattle.sl_model.specs.declared.layout.TheConstants.{PROGRAM_PAGES};
 ghost use Rattle.rv_machine.specs.Machine.{state_of};
-ghost use Rattle.rec_format.specs.declared.recording.Recording.{Recording};
-ghost use Rattle.replay.specs.Breaks.{listings, pages_diff, as_checkpoint_break, checkpoint_break, PAGE_NUMBERS};
-ghost use Rattle.checkpoints.specs.RecordedRun.{IsOf, compared};
-ghost use Rattle.checkpoints.specs.Memory.{mapped_diff, IsFirstUnlike, missing_from, missing_break, told_first};
+ghost use Rattle.rec_format.specs.Recorded.{end_place};
+ghost use Rattle.rec_format.specs.Compared.{machine_diff, pages_diff, as_checkpoint_break, checkpoint_break, PAGE_NUMBERS};
+ghost use Rattle.checkpoints.specs.RecordedRun.{opened_of, data_of, compared};
+ghost use Rattle.checkpoints.specs.Memory.{mapped_diff, IsFirstUnlike, missing_break, told_first};
 
 use crate::kept::Checkpoints;
-use crate::listed::least_missing;
 use crate::parts::{bytes_break, machine_break};
-use call_log::BreakKind;
+use call_log::{BreakKind, part};
 use page_frames::Frames;
+use rec_format::CheckpointData;
 use rv_machine::Machine;
+use sl_base::Seq;
+use std::alloc::Global;
 
-/// The number of whether a page is mapped.
-const MAPPED: u32 = 36;
+/// A state as a checkpoint that lists no page.
+fn data_of(alloc: Global, m: &Machine) -> CheckpointData
+    ensures { (pages : Pages) → result ≡ data_of (state_of m.now pages) }
+{
+    let mut x = [0; 31];
+    x.copy_from_slice(&m.x[1..]);
+    CheckpointData {
+        count: m.count,
+        pc: m.pc,
+        x,
+        brk: m.brk,
+        brk_end: m.brk_end,
+        next_call: m.next_call,
+        pages: Seq::new(alloc),
+    }
+}
 
 /// A listed page that is not mapped.
 fn missing_break(index: u32, page: u32) -> BreakKind
@@ -27,7 +44,7 @@ fn missing_break(index: u32, page: u32) -> BreakKind
 {
     BreakKind::CheckpointDiffers {
         index,
-        part: MAPPED,
+        part: part::PAGE,
         at: page * 4096,
         recorded: 1,
         replayed: 0,
@@ -58,10 +75,12 @@ fn told_first(
 impl Checkpoints {
     /// How a mapped page differs.
     fn page_break(&self, k: u32, page: u32, f: &Frames) -> Option<BreakKind>
-        requires within { k ≤ length self.now.checkpoints }
+        requires within { k ≤ end_place self.now.rec }
         requires mapped { IsSome (get f.now.pages page) }
         requires below { page < PROGRAM_PAGES }
-        ensures { (rec : Recording) → IsOf rec self.now → result ≡ as_checkpoint_break k (mapped_diff self.now.opened.pages rec k page (get f.now.pages page)) }
+        ensures { let opened = self.now.opening.pages in
+            result ≡ as_checkpoint_break k
+            (mapped_diff opened self.now.rec k page (get f.now.pages page)) }
     {
         let bytes = f.page(page)?;
         bytes_break(k, page * 4096, self.page_at(k, page), bytes)
@@ -69,8 +88,8 @@ impl Checkpoints {
 
     /// The least mapped page that differs, and how.
     fn first_unlike(&self, k: u32, f: &Frames) -> Option<(u32, BreakKind)>
-        requires { k ≤ length self.now.checkpoints }
-        ensures { (rec : Recording) → IsOf rec self.now → IsFirstUnlike self.now.opened.pages rec k f.now.pages result }
+        requires { k ≤ end_place self.now.rec }
+        ensures { IsFirstUnlike self.now.opening.pages self.now.rec k f.now.pages result }
     {
         let _kept = f.dirty_len();
         let mut from = 0;
@@ -83,31 +102,38 @@ impl Checkpoints {
         None
     }
 
-    /// The least listed page up to checkpoint `k` that is not mapped.
-    fn first_missing(&self, k: u32, f: &Frames) -> Option<u32>
-        requires { k ≤ length self.now.checkpoints }
-        ensures least { (rec : Recording) → IsOf rec self.now → result ≡ missing_from f.now.pages None (listings rec k) }
-        ensures below { IfSome result (λ page. page < PROGRAM_PAGES) }
-    {
-        least_missing(f, &self.checkpoints.as_slice()[..k as usize])
-    }
-
     /// The least page that differs.
     fn memory_break(&self, k: u32, f: &Frames) -> Option<BreakKind>
-        requires { k ≤ length self.now.checkpoints }
-        ensures { (rec : Recording) (s : State) → IsOf rec self.now → s.pages ≡ f.now.pages → result ≡ as_checkpoint_break k (pages_diff self.now.opened.pages rec k s PAGE_NUMBERS) }
+        requires { k ≤ end_place self.now.rec }
+        ensures { (s : State) → s.pages ≡ f.now.pages
+            → result ≡ as_checkpoint_break k
+            (pages_diff self.now.opening.pages self.now.rec k s PAGE_NUMBERS) }
     {
         let _kept = f.dirty_len();
-        told_first(k, self.first_unlike(k, f), self.first_missing(k, f))
+        told_first(k, self.first_unlike(k, f), self.least_missing(k, f))
+    }
+
+    /// The least part that differs but for memory.
+    fn machine_differs(&self, k: u32, m: &Machine) -> Option<BreakKind>
+        ensures { (pages : Pages)
+            → result ≡ as_checkpoint_break k
+            (machine_diff (compared self.now.rec (opened_of self.now) k) (state_of m.now pages)) }
+    {
+        if k == 0 {
+            return machine_break(k, &data_of(self.alloc, &self.machine), m);
+        }
+        machine_break(k, self.checkpoint(k), m)
     }
 
     /// The least part in which a state differs from checkpoint `k`, with the recorded and the replayed value, or `None`
     /// where it does not differ.
     pub fn differs(&self, k: u32, m: &Machine, f: &Frames) -> Option<BreakKind>
-        requires { k ≤ length self.now.checkpoints }
-        ensures { (rec : Recording) → IsOf rec self.now → result ≡ checkpoint_break self.now.opened.pages rec k (compared rec self.now.opened k) (state_of m.now f.now.pages) }
+        requires { k ≤ end_place self.now.rec }
+        ensures { let opened = opened_of self.now in
+            result ≡ checkpoint_break opened.pages self.now.rec k
+            (compared self.now.rec opened k) (state_of m.now f.now.pages) }
     {
-        let found = machine_break(k, self.data(k), m);
+        let found = self.machine_differs(k, m);
         if found.is_some() {
             return found;
         }

@@ -6,6 +6,7 @@ mod differ;
 mod kept;
 mod listed;
 mod mapping;
+mod pages;
 mod parts;
 mod restore;
 

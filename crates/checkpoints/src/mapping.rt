@@ -1,16 +1,16 @@
 //! Pages that are put into memory.
 
 ghost use Rattle.std.specs.Prelude.{◌≡◌, ◌+◌, ◌≤◌, OnOk};
-ghost use Rattle.std.specs.List.{AllByRecursion, flat_map};
+ghost use Rattle.std.specs.List.{AllByRecursion};
 ghost use Rattle.std.specs.FinMap.{len};
-ghost use Rattle.sl_model.specs.Marks.{PROGRAM_PAGES};
-ghost use Rattle.page_frames.specs.MarkedPages.{MOST_PAGES};
-ghost use Rattle.rec_format.specs.Rules.{IsListedPage, IsCheckpoint};
-ghost use Rattle.replay.specs.Opening.{map_pages};
-ghost use Rattle.replay.specs.Recorded.{put_listed, put_all_listed};
+ghost use Rattle.sl_model.specs.declared.layout.TheConstants.{MOST_PAGES, PROGRAM_PAGES};
+ghost use Rattle.rec_format.specs.Rules.{IsListedPage};
+ghost use Rattle.sl_model.specs.Mapping.{map_pages};
+ghost use Rattle.rec_format.specs.Recorded.{end_place, listed_to, put_listed, put_all_listed};
 
+use crate::kept::Checkpoints;
 use page_frames::Frames;
-use rec_format::{CheckpointData, ListedPage};
+use rec_format::ListedPage;
 use sl_base::Memory;
 
 /// Maps zeros in so many pages from one on.
@@ -45,12 +45,14 @@ fn put_pages(frames: &mut Frames, listed: &[ListedPage])
     }
 }
 
-/// The same for the lists of checkpoints in order.
-pub fn put_lists(frames: &mut Frames, checkpoints: &[CheckpointData])
-    requires { AllByRecursion IsCheckpoint checkpoints.now }
-    ensures { frames.new.pages ≡ put_all_listed frames.old.pages (flat_map (λ c. c.pages) checkpoints.now) }
-{
-    for checkpoint in checkpoints {
-        put_pages(frames, checkpoint.pages.as_slice());
+impl Checkpoints {
+    /// The same for all pages that are listed up to checkpoint `k`, in order.
+    pub(crate) fn put_lists(&self, frames: &mut Frames, k: u32)
+        requires { k ≤ end_place self.now.rec }
+        ensures { frames.new.pages ≡ put_all_listed frames.old.pages (listed_to self.now.rec k) }
+    {
+        for j in 0..k {
+            put_pages(frames, self.checkpoint(j + 1).pages.as_slice());
+        }
     }
 }

@@ -3,37 +3,22 @@
 ghost use Rattle.std.specs.Prelude.{◌≡◌, ◌+◌, ◌≤◌, ◌^◌, length, drop};
 ghost use Rattle.sl_model.specs.Pages.{Pages};
 ghost use Rattle.rv_machine.specs.Machine.{state_of};
-ghost use Rattle.replay.specs.Breaks.{part_diff, parts_diff, bytes_diff, machine_diff, as_checkpoint_break};
+ghost use Rattle.rec_format.specs.Compared.{part_diff, parts_diff, bytes_diff, machine_diff, as_checkpoint_break};
 
-use call_log::BreakKind;
+use call_log::{BreakKind, part};
 use rec_format::CheckpointData;
 use rv_machine::Machine;
 
-/// The number of the first register.
-const FIRST_REGISTER: u32 = 1;
-
-/// The number of the break.
-const BREAK: u32 = 32;
-
-/// The number of the mapped end.
-const MAPPED_END: u32 = 33;
-
-/// The number of the next call's index.
-const NEXT_CALL: u32 = 34;
-
-/// The number of a byte of memory.
-const BYTE: u32 = 35;
-
 /// A part that is no memory, where it differs.
-fn part_break(index: u32, part: u32, recorded: u32, replayed: u32) -> Option<BreakKind>
-    ensures { result ≡ as_checkpoint_break index (part_diff part recorded replayed) }
+fn part_break(index: u32, number: u32, recorded: u32, replayed: u32) -> Option<BreakKind>
+    ensures { result ≡ as_checkpoint_break index (part_diff number recorded replayed) }
 {
     if recorded == replayed {
         return None;
     }
     Some(BreakKind::CheckpointDiffers {
         index,
-        part,
+        part: number,
         at: 0,
         recorded,
         replayed,
@@ -45,8 +30,8 @@ fn registers_break(index: u32, recorded: &[u32; 31], registers: &[u32; 32]) -> O
     ensures { result ≡ as_checkpoint_break index (parts_diff 1 recorded.now (drop 1 registers.now)) }
 {
     for (i, value) in recorded.iter().enumerate() {
-        let part = FIRST_REGISTER + i as u32;
-        let found = part_break(index, part, *value, registers[i + 1]);
+        let number = part::FIRST_REGISTER + i as u32;
+        let found = part_break(index, number, *value, registers[i + 1]);
         if found.is_some() {
             return found;
         }
@@ -55,15 +40,15 @@ fn registers_break(index: u32, recorded: &[u32; 31], registers: &[u32; 32]) -> O
 }
 
 /// The first part that differs but for memory.
-#[tactic(auto, unfolding(replay::specs::Breaks::machine_diff))]
+#[tactic(auto, unfolding(rec_format::specs::Compared::machine_diff))]
 pub fn machine_break(index: u32, checkpoint: &CheckpointData, m: &Machine) -> Option<BreakKind>
     ensures { (pages : Pages) → result ≡ as_checkpoint_break index (machine_diff checkpoint.now (state_of m.now pages)) }
 {
-    part_break(index, 0, checkpoint.pc, m.pc)
+    part_break(index, part::PC, checkpoint.pc, m.pc)
         .or(registers_break(index, &checkpoint.x, &m.x))
-        .or(part_break(index, BREAK, checkpoint.brk, m.brk))
-        .or(part_break(index, MAPPED_END, checkpoint.brk_end, m.brk_end))
-        .or(part_break(index, NEXT_CALL, checkpoint.next_call, m.next_call))
+        .or(part_break(index, part::BREAK, checkpoint.brk, m.brk))
+        .or(part_break(index, part::HEAP_END, checkpoint.brk_end, m.brk_end))
+        .or(part_break(index, part::NEXT_CALL, checkpoint.next_call, m.next_call))
 }
 
 /// The first byte that differs, from an address on.
@@ -79,7 +64,7 @@ pub fn bytes_break(index: u32, address: u32, recorded: &[u8], replayed: &[u8]) -
         if *byte != replayed[i] {
             return Some(BreakKind::CheckpointDiffers {
                 index,
-                part: BYTE,
+                part: part::BYTE,
                 at: address + i as u32,
                 recorded: u32::from(*byte),
                 replayed: u32::from(replayed[i]),

@@ -1,22 +1,22 @@
 //! The state that a checkpoint records.
 
-ghost use Rattle.std.specs.Prelude.{◌≡◌, ℕ, ◌≤◌, [], length, IfOk, OnOk};
+ghost use Rattle.std.specs.Prelude.{◌≡◌, ℕ, ◌<◌, ◌≤◌, [], IfOk, OnOk};
 ghost use Rattle.sl_model.specs.Pages.{Pages};
 ghost use Rattle.rv_machine.specs.Machine.{state_of};
 ghost use Rattle.rec_format.specs.declared.recording.Recording.{Recording};
-ghost use Rattle.replay.specs.Recorded.{recorded_end, recorded_pages, recorded_state_of, recorded_state};
-ghost use Rattle.checkpoints.specs.RecordedRun.{IsOf};
+ghost use Rattle.rec_format.specs.Recorded.{end_place, recorded_end, recorded_pages, recorded_state_of, recorded_state};
+ghost use Rattle.checkpoints.specs.RecordedRun.{opened_of};
 
 use crate::copies::copied_frames;
 use crate::kept::Checkpoints;
-use crate::mapping::{map_pages, put_lists};
+use crate::mapping::map_pages;
 use page_frames::Frames;
 use rec_format::CheckpointData;
 use rv_machine::Machine;
 use sl_base::Memory;
 use sl_model::RunState;
 
-/// The mapped end that a checkpoint records, as far as it can be one.
+/// The heap end that a checkpoint records, as far as it can be one.
 fn recorded_end(opening: &Machine, brk_end: u32) -> u32
     ensures { (pages : Pages) → result ≡ recorded_end (state_of opening.now pages) brk_end }
 {
@@ -28,8 +28,12 @@ fn recorded_end(opening: &Machine, brk_end: u32) -> u32
 
 /// The machine of a checkpoint: a program that runs.
 fn machine_of(opening: &Machine, checkpoint: &CheckpointData) -> Machine
-    ensures end { (opened : Pages) → result.brk_end ≡ recorded_end (state_of opening.now opened) checkpoint.now.brk_end }
-    ensures state { (rec : Recording) (k : ℕ) (opened pages : Pages) → pages ≡ recorded_pages rec (state_of opening.now opened) k result.brk_end → state_of result pages ≡ recorded_state_of rec (state_of opening.now opened) k checkpoint.now }
+    ensures end { (opened : Pages)
+        → result.brk_end ≡ recorded_end (state_of opening.now opened) checkpoint.now.brk_end }
+    ensures state { (rec : Recording) (k : ℕ) (opened pages : Pages)
+        → pages ≡ recorded_pages rec (state_of opening.now opened) k result.brk_end
+        → state_of result pages
+        ≡ recorded_state_of rec (state_of opening.now opened) k checkpoint.now }
 {
     let mut x = [0; 32];
     x[1..].copy_from_slice(&checkpoint.x);
@@ -48,28 +52,30 @@ fn machine_of(opening: &Machine, checkpoint: &CheckpointData) -> Machine
 impl Checkpoints {
     /// The machine at checkpoint `k`.
     fn machine_at(&self, k: u32) -> Machine
-        requires { k ≤ length self.now.checkpoints }
-        ensures from { self.now.opened.brk_start ≤ result.brk_end }
-        ensures to { result.brk_end ≤ self.now.opened.heap_limit }
-        ensures state { (rec : Recording) (pages : Pages) → IsOf rec self.now → pages ≡ recorded_pages rec self.now.opened k result.brk_end → state_of result pages ≡ recorded_state rec self.now.opened k }
+        ensures from { self.now.machine.layout.brk_start ≤ result.brk_end }
+        ensures to { result.brk_end ≤ self.now.machine.layout.heap_limit }
+        ensures state { (pages : Pages)
+            → pages ≡ recorded_pages self.now.rec (opened_of self.now) k result.brk_end
+            → state_of result pages ≡ recorded_state self.now.rec (opened_of self.now) k }
     {
         if k == 0 {
             return self.machine;
         }
-        machine_of(&self.machine, self.data(k))
+        machine_of(&self.machine, self.checkpoint(k))
     }
 
-    /// The memory of checkpoint `k`, with this mapped end.
+    /// The memory of checkpoint `k`, with this heap end.
     fn pages_at(&self, k: u32, end: u32) -> Result<Frames, Memory>
-        requires within { k ≤ length self.now.checkpoints }
-        requires from { self.now.opened.brk_start ≤ end }
-        requires to { end ≤ self.now.opened.heap_limit }
-        ensures { (rec : Recording) → IsOf rec self.now → IfOk result (λ f. f.pages ≡ recorded_pages rec self.now.opened k end) }
+        requires within { k ≤ end_place self.now.rec }
+        requires from { self.now.machine.layout.brk_start ≤ end }
+        requires to { end ≤ self.now.machine.layout.heap_limit }
+        ensures { IfOk result
+            (λ f. f.pages ≡ recorded_pages self.now.rec (opened_of self.now) k end) }
     {
         let mut frames = copied_frames(self.alloc, &self.opening)?;
         let start = self.machine.layout.brk_start;
         map_pages(&mut frames, start / 4096, (end - start) / 4096)?;
-        put_lists(&mut frames, &self.checkpoints.as_slice()[..k as usize]);
+        self.put_lists(&mut frames, k);
         Ok(frames)
     }
 
@@ -80,8 +86,9 @@ impl Checkpoints {
     ///
     /// Want of memory. The machine and the memory are then given up.
     pub fn state_at(&self, k: u32, m: &mut Machine, f: &mut Frames) -> Result<(), Memory>
-        requires { k ≤ length self.now.checkpoints }
-        ensures state { (rec : Recording) → IsOf rec self.now → OnOk result (state_of m.new f.new.pages ≡ recorded_state rec self.now.opened k) }
+        requires { k ≤ end_place self.now.rec }
+        ensures state { let opened = opened_of self.now in
+            OnOk result (state_of m.new f.new.pages ≡ recorded_state self.now.rec opened k) }
         ensures clean { OnOk result (f.new.dirty ≡ []) }
     {
         let machine = self.machine_at(k);

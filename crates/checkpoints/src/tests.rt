@@ -3,7 +3,7 @@
 ghost use Rattle.std.specs.Prelude.{◌≡◌, ℕ, ◌≤◌, ◌⊎◌, IsSome, IfOk};
 ghost use Rattle.std.specs.FinMap.{get, len};
 ghost use Rattle.rv_machine.specs.Machine.{state_of};
-ghost use Rattle.checkpoints.specs.RecordedRun.{IsOpening};
+ghost use Rattle.checkpoints.specs.Opening.{IsOpening};
 
 use crate::Checkpoints;
 use call_log::BreakKind;
@@ -98,7 +98,7 @@ fn kept(alloc: Global, rows: &[Row<'_>], last: &Row<'_>) -> Result<Checkpoints, 
     add(&mut bytes, last)?;
     let rec = read_recording(alloc, &bytes)?;
     let (machine, frames) = opening(alloc)?;
-    Ok(Checkpoints::new(alloc, &rec, &machine, &frames)?)
+    Ok(Checkpoints::new(alloc, rec, machine, frames))
 }
 
 /// A checkpoint that changes only page 16.

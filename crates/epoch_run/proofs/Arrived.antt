@@ -10,10 +10,11 @@ use Rattle.tracer_lang.specs.declared.record.Record.{Record}
 use Rattle.rec_format.specs.Rules.{IsRecordingValue}
 use Rattle.rec_format.specs.declared.recording.Recording.{Recording}
 use Rattle.replay.specs.Run.{Onward, Goes, Breaks, onward, state_after, run_from}
-use Rattle.replay.specs.Breaks.{PartDiff, checkpoint_diff, checkpoint_break, as_checkpoint_break, listed_break, at_count, listed_or, break_after}
-use Rattle.replay.specs.Recorded.{checkpoint_at, recorded_state, recorded_count}
+use Rattle.replay.specs.Breaks.{listed_break, at_count, listed_or, break_after}
+use Rattle.rec_format.specs.Recorded.{end_place, checkpoint_at, recorded_state, recorded_count}
+use Rattle.rec_format.specs.Compared.{PartDiff, checkpoint_diff, checkpoint_break, as_checkpoint_break}
 use Rattle.epoch_run.specs.Records.{Tracers, records_after}
-use Rattle.epoch_run.specs.Epochs.{end_place, between, early_exit, closing_break, epoch_break_from, epoch_records_from}
+use Rattle.epoch_run.specs.Epochs.{between, early_exit, closing_break, epoch_break_from, epoch_records_from}
 use Rattle.epoch_run.specs.Opened.{IsOpened}
 use Rattle.epoch_run.proofs.InRun.{IsInRun, IsInRun-onward}
 use Rattle.epoch_run.proofs.SameState.{same_state}

@@ -9,9 +9,10 @@ use Rattle.call_log.specs.declared.breaks.BreakKind.{BreakKind}
 use Rattle.rec_format.specs.Rules.{IsRecordingValue}
 use Rattle.rec_format.specs.declared.recording.Recording.{Recording}
 use Rattle.rec_format.specs.declared.recording.CheckpointData.{CheckpointData}
-use Rattle.replay.specs.Breaks.{checkpoint_break, listed_break}
-use Rattle.replay.specs.Recorded.{checkpoint_at, recorded_count}
-use Rattle.epoch_run.specs.Epochs.{end_place, between}
+use Rattle.replay.specs.Breaks.{listed_break}
+use Rattle.rec_format.specs.Recorded.{end_place, checkpoint_at, recorded_count}
+use Rattle.rec_format.specs.Compared.{checkpoint_break}
+use Rattle.epoch_run.specs.Epochs.{between}
 use Rattle.epoch_run.proofs.Counts.{checkpoint_at-suc, recorded_count-suc, counts_rise}
 
 pub option_or-none : {A : Type 0} (x : Option A) → option_or x None ≡ x

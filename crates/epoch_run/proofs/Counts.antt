@@ -1,14 +1,13 @@
 -- Counts of a recording's checkpoints, which rise.
 use Rattle.std.specs.Prelude.{unwrap_or}
-use Rattle.std.proofs.Common.{◌≡◌, ℕ, zero, suc, ◌-◌, ◌<◌, ◌≤◌, ⊎_elim, List, [], ◌∷◌, length, map, Option, Some, None, get_or, slice_get, refl, ap, ◌∙◌, arith}
+use Rattle.std.proofs.Common.{◌≡◌, ℕ, zero, suc, ◌-◌, ◌<◌, ◌≤◌, ⊎_elim, List, [], ◌∷◌, length, map, Option, Some, None, get_or, slice_get, ap, ◌∙◌, arith}
 use Rattle.std.proofs.lemmas.Option.{unwrap_or-slice_get}
 use Rattle.std.proofs.lemmas.List.{get_or_past}
 use Rattle.std.proofs.lemmas.Bool.{cases_lt}
 use Rattle.rec_format.specs.Rules.{IsRecordingValue, Rise, IsAbove, last_or, count_of}
 use Rattle.rec_format.specs.declared.recording.Recording.{Recording}
 use Rattle.rec_format.specs.declared.recording.CheckpointData.{CheckpointData}
-use Rattle.replay.specs.Recorded.{checkpoint_at, checkpoint_or_last, recorded_count}
-use Rattle.epoch_run.specs.Epochs.{end_place}
+use Rattle.rec_format.specs.Recorded.{end_place, checkpoint_at, recorded_count}
 
 -- ---- counts that rise along a list
 
@@ -40,14 +39,10 @@ rise_last before prior (c ∷ cs) n rise above (suc i) d within = rise_last (Som
 
 -- ---- the checkpoints by their numbers
 
-or_last : (rec : Recording) (o : Option CheckpointData) → checkpoint_or_last rec o ≡ unwrap_or o rec.last
-or_last rec None = refl
-or_last rec (Some c) = refl
-
 pub checkpoint_at-suc : (rec : Recording) (k : ℕ) → checkpoint_at rec (suc k) ≡ get_or rec.checkpoints k rec.last
 checkpoint_at-suc rec k =
     let same : suc k - 1 ≡ k = omega arith in
-    ap (λ i. checkpoint_or_last rec (slice_get rec.checkpoints i)) same ∙ or_last rec (slice_get rec.checkpoints k) ∙ unwrap_or-slice_get rec.checkpoints k rec.last
+    ap (λ i. unwrap_or (slice_get rec.checkpoints i) rec.last) same ∙ unwrap_or-slice_get rec.checkpoints k rec.last
 
 pub recorded_count-suc : (rec : Recording) (k : ℕ) → recorded_count rec (suc k) ≡ (get_or rec.checkpoints k rec.last).count
 recorded_count-suc rec k = ap (λ (c : CheckpointData). c.count) (checkpoint_at-suc rec k)

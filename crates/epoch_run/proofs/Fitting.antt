@@ -12,13 +12,15 @@ use Rattle.std.proofs.lemmas.Bool.{or_cases, or_right, and_parts, and_from, ltb-
 use Rattle.std.proofs.lemmas.Map.Made.{length-from_same_keys, is_member-filter}
 use Rattle.sl_model.specs.Pages.{Pages, IsPage, ArePages}
 use Rattle.sl_model.specs.PagesLaws.{AreWhole}
-use Rattle.sl_model.specs.State.{State, IsState, Fits, MEMORY_END}
+use Rattle.sl_model.specs.declared.layout.Layout.{Layout}
+use Rattle.sl_model.specs.State.{State, IsState, FitsLayout, Fits}
+use Rattle.sl_model.specs.declared.layout.TheConstants.{MEMORY_END}
 use Rattle.rec_format.specs.Rules.{IsRecordingValue}
 use Rattle.rec_format.specs.declared.recording.Recording.{Recording}
 use Rattle.replay.specs.Run.{Goes, onward}
-use Rattle.replay.specs.Recorded.{recorded_state}
+use Rattle.rec_format.specs.Recorded.{recorded_state}
 use Rattle.epoch_run.specs.Opened.{IsOpened}
-use Rattle.epoch_run.proofs.Mapped.{is_among}
+use Rattle.sl_model.proofs.Mapping.{is_among}
 use Rattle.epoch_run.proofs.InRun.{IsInRun, IsInRun-kept}
 use Rattle.epoch_run.proofs.Recorded.{IsInRun-recorded}
 
@@ -85,14 +87,13 @@ same_number p a b same = length-from_same_keys (eq_by_cmp_equiv nat_cmp_total) (
 -- ---- a heap that grew
 
 pub record Grows (s t : State) : Type 0 where
-  pub start : t.brk_start ≡ s.brk_start
-  pub limit : t.heap_limit ≡ s.heap_limit
+  pub layout : t.layout ≡ s.layout
   pub end_page : t.brk_end % 4096 ≡ 0
-  pub end_from : s.brk_start ≤ t.brk_end
-  pub end_to : t.brk_end ≤ s.heap_limit
+  pub end_from : s.layout.brk_start ≤ t.brk_end
+  pub end_to : t.brk_end ≤ s.layout.heap_limit
   -- the pages of s outside of its heap, and the heap's up to the new end
-  pub outside : (page : ℕ) → (is_some (get t.pages page) && is_outside s.brk_start s.heap_limit page) ≡ (is_some (get s.pages page) && is_outside s.brk_start s.heap_limit page)
-  pub heap : (page : ℕ) → s.brk_start ≤ page * 4096 → page * 4096 < s.heap_limit → IsSome (get t.pages page) ↔ (page * 4096 < t.brk_end)
+  pub outside : (page : ℕ) → (is_some (get t.pages page) && is_outside s.layout.brk_start s.layout.heap_limit page) ≡ (is_some (get s.pages page) && is_outside s.layout.brk_start s.layout.heap_limit page)
+  pub heap : (page : ℕ) → s.layout.brk_start ≤ page * 4096 → page * 4096 < s.layout.heap_limit → IsSome (get t.pages page) ↔ (page * 4096 < t.brk_end)
 
 is_outside-true : (start limit page : ℕ) → (start ≤ page * 4096 → page * 4096 < limit → ⊥) → is_outside start limit page ≡ true
 is_outside-true start limit page out = chosen (nat_le start (page * 4096)) (nat_lt (page * 4096) limit) refl refl
@@ -104,30 +105,26 @@ is_outside-true start limit page out = chosen (nat_le start (page * 4096)) (nat_
 
 Fits-grows : (s t : State) → Fits s → Grows s t → Fits t
 Fits-grows s t fits grows = record {
-  start = rw grows.start fits.start;
-  limit = rw grows.limit fits.limit;
-  ordered = omega (arith, grows.start, grows.limit, fits.ordered);
-  below_end = rw grows.limit fits.below_end;
-  size = omega (arith, grows.start, grows.limit, fits.size);
+  layout = subst FitsLayout (sym grows.layout) fits.layout;
   mapped_end = grows.end_page;
-  end_from = rw grows.start grows.end_from;
-  end_to = rw grows.limit grows.end_to;
+  end_from = rw grows.layout grows.end_from;
+  end_to = rw grows.layout grows.end_to;
   pages_below = λ page some. below page some;
-  heap = λ page from to. grows.heap page (subst (λ n. n ≤ page * 4096) grows.start from) (subst (λ n. page * 4096 < n) grows.limit to);
-  few = rw (grows.start, grows.limit) (subst (λ n. n ≤ 12288) (sym (same_number (is_outside s.brk_start s.heap_limit) t.pages s.pages grows.outside)) fits.few);
+  heap = λ page from to. grows.heap page (subst (λ (l : Layout). l.brk_start ≤ page * 4096) grows.layout from) (subst (λ (l : Layout). page * 4096 < l.heap_limit) grows.layout to);
+  few = rw grows.layout (subst (λ n. n ≤ 12288) (sym (same_number (is_outside s.layout.brk_start s.layout.heap_limit) t.pages s.pages grows.outside)) fits.few);
 }
   where
     below : (page : ℕ) → IsSome (get t.pages page) → page * 4096 < MEMORY_END
     below page some = ⊎_elim
-        (λ (low : page * 4096 < s.brk_start). omega (arith, fits.ordered, fits.below_end))
-        (λ (from : s.brk_start ≤ page * 4096). ⊎_elim
-        (λ (to : page * 4096 < s.heap_limit). omega (arith, fits.below_end))
-        (λ (past : s.heap_limit ≤ page * 4096).
-        let out = is_outside-true s.brk_start s.heap_limit page (λ from to. absurd (omega arith)) in
-        let both : (is_some (get s.pages page) && is_outside s.brk_start s.heap_limit page) ≡ true = sym (grows.outside page) ∙ and_from (is_some (get t.pages page)) (is_outside s.brk_start s.heap_limit page) some out in
-        fits.pages_below page (and_parts (is_some (get s.pages page)) (is_outside s.brk_start s.heap_limit page) both).0)
-        (cases_lt (page * 4096) s.heap_limit))
-        (cases_lt (page * 4096) s.brk_start)
+        (λ (low : page * 4096 < s.layout.brk_start). omega (arith, fits.layout.ordered, fits.layout.below_end))
+        (λ (from : s.layout.brk_start ≤ page * 4096). ⊎_elim
+        (λ (to : page * 4096 < s.layout.heap_limit). omega (arith, fits.layout.below_end))
+        (λ (past : s.layout.heap_limit ≤ page * 4096).
+        let out = is_outside-true s.layout.brk_start s.layout.heap_limit page (λ from to. absurd (omega arith)) in
+        let both : (is_some (get s.pages page) && is_outside s.layout.brk_start s.layout.heap_limit page) ≡ true = sym (grows.outside page) ∙ and_from (is_some (get t.pages page)) (is_outside s.layout.brk_start s.layout.heap_limit page) some out in
+        fits.pages_below page (and_parts (is_some (get s.pages page)) (is_outside s.layout.brk_start s.layout.heap_limit page) both).0)
+        (cases_lt (page * 4096) s.layout.heap_limit))
+        (cases_lt (page * 4096) s.layout.brk_start)
 
 -- ---- a run from a state that fits
 
@@ -155,23 +152,22 @@ is_outside-false start limit page from to = ap not (and_from (nat_le start (page
 -- what a run reaches from a state that fits
 Grows-run : (s t : State) → Fits s → IsInRun s t → s.brk_end ≤ t.brk_end → Grows s t
 Grows-run s t fits runs grew = record {
-  start = runs.start;
-  limit = runs.limit;
+  layout = runs.layout;
   end_page = runs.end_page;
   end_from = runs.end_from;
   end_to = runs.end_to;
-  outside = λ page. ap (λ b. b && is_outside s.brk_start s.heap_limit page) (runs.mapped page)
-      ∙ same_outside (is_some (get s.pages page)) (is_among (s.brk_start / 4096) (t.brk_end / 4096) page) (is_outside s.brk_start s.heap_limit page) (λ is.
-      let place = among_is s.brk_start t.brk_end page is runs.end_page fits.start in
-      is_outside-false s.brk_start s.heap_limit page place.0 (omega (arith, place.1, runs.end_to)));
+  outside = λ page. ap (λ b. b && is_outside s.layout.brk_start s.layout.heap_limit page) (runs.mapped page)
+      ∙ same_outside (is_some (get s.pages page)) (is_among (s.layout.brk_start / 4096) (t.brk_end / 4096) page) (is_outside s.layout.brk_start s.layout.heap_limit page) (λ is.
+      let place = among_is s.layout.brk_start t.brk_end page is runs.end_page fits.layout.start in
+      is_outside-false s.layout.brk_start s.layout.heap_limit page place.0 (omega (arith, place.1, runs.end_to)));
   heap = λ page from to. (
     λ some. ⊎_elim
         (λ (stood : is_some (get s.pages page) ≡ true).
         let below = (fits.heap page from to).0 stood in
         omega arith)
-        (λ (new : is_among (s.brk_start / 4096) (t.brk_end / 4096) page ≡ true). (among_is s.brk_start t.brk_end page new runs.end_page fits.start).1)
-        (or_cases (is_some (get s.pages page)) (is_among (s.brk_start / 4096) (t.brk_end / 4096) page) (sym (runs.mapped page) ∙ some)),
-    λ below. runs.mapped page ∙ or_right (is_some (get s.pages page)) (is_among (s.brk_start / 4096) (t.brk_end / 4096) page) (is_among-from s.brk_start t.brk_end page from below runs.end_page),
+        (λ (new : is_among (s.layout.brk_start / 4096) (t.brk_end / 4096) page ≡ true). (among_is s.layout.brk_start t.brk_end page new runs.end_page fits.layout.start).1)
+        (or_cases (is_some (get s.pages page)) (is_among (s.layout.brk_start / 4096) (t.brk_end / 4096) page) (sym (runs.mapped page) ∙ some)),
+    λ below. runs.mapped page ∙ or_right (is_some (get s.pages page)) (is_among (s.layout.brk_start / 4096) (t.brk_end / 4096) page) (is_among-from s.layout.brk_start t.brk_end page from below runs.end_page),
   );
 }
 
@@ -193,19 +189,18 @@ own_run s is fits = record {
   registers = is.registers;
   zero = is.zero;
   whole = all_whole s is.pages;
-  start = refl;
-  limit = refl;
+  layout = refl;
   end_page = fits.mapped_end;
   end_from = fits.end_from;
   end_to = fits.end_to;
-  mapped = λ page. within_itself (is_some (get s.pages page)) (is_among (s.brk_start / 4096) (s.brk_end / 4096) page) (λ heap.
-      let place = among_is s.brk_start s.brk_end page heap fits.mapped_end fits.start in
+  mapped = λ page. within_itself (is_some (get s.pages page)) (is_among (s.layout.brk_start / 4096) (s.brk_end / 4096) page) (λ heap.
+      let place = among_is s.layout.brk_start s.brk_end page heap fits.mapped_end fits.layout.start in
       (fits.heap page place.0 (omega (arith, place.1, fits.end_to))).1 place.1);
 }
 
 pub Fits-onward : (rec : Recording) (s t : State) → IsState s → Fits s → onward rec s ≡ Goes t → Fits t
 Fits-onward rec s t is fits goes =
-    let next = IsInRun-kept rec s s t fits.limit (own_run s is fits) goes in
+    let next = IsInRun-kept rec s s t fits.layout.limit (own_run s is fits) goes in
     Fits-grows s t fits (Grows-run s t fits next.in_run next.end_grows)
 
 pub Fits-recorded : (rec : Recording) (opened : State) (k : ℕ) → IsRecordingValue rec → IsOpened opened → Fits opened → Fits (recorded_state rec opened k)

@@ -11,6 +11,7 @@ use Rattle.std.proofs.Math.ListN.{length-set}
 use Rattle.sl_model.specs.declared.instr.Instr.{Instr}
 use Rattle.sl_model.specs.declared.instr.Instr.TheVariants.{Lui, Auipc, Jal, Jalr, Branch, Load, Store, Immediate, Shift, Register, Multiply, Fence, Ecall, Ebreak}
 use Rattle.sl_model.specs.declared.instr.LoadOp.{LoadOp}
+use Rattle.sl_model.specs.declared.layout.Layout.{Layout}
 use Rattle.sl_model.specs.declared.run_state.RunState.{RunState}
 use Rattle.sl_model.specs.declared.run_state.RunState.TheVariants.{Running, Exited}
 use Rattle.sl_model.specs.Pages.{set_bytes, load_at, store_at}
@@ -30,26 +31,26 @@ use Rattle.replay.specs.Run.{Onward, Goes, Breaks, onward, onward_in, stepped, a
 use Rattle.sl_base.specs.declared.call.Call.{Call}
 use Rattle.sl_base.specs.World.{write_number}
 use Rattle.epoch_run.specs.Opened.{IsOpened}
-use Rattle.epoch_run.proofs.Mapped.{is_among, get-map_pages, is_some-or_zeros, AreWhole-map_pages, AreWhole-set_bytes}
+use Rattle.sl_model.proofs.Mapping.{is_among, get-map_pages, is_some-or_zeros, AreWhole-map_pages}
+use Rattle.sl_model.proofs.WholePages.{AreWhole-set_bytes}
 
 -- the pages of a program that was opened so, with this end of the mapped heap
 abbrev pub is_mapped : State → ℕ → ℕ → Bool
-is_mapped opened brk_end number = is_some (get opened.pages number) || is_among (opened.brk_start / 4096) (brk_end / 4096) number
+is_mapped opened brk_end number = is_some (get opened.pages number) || is_among (opened.layout.brk_start / 4096) (brk_end / 4096) number
 
 pub record IsInRun (opened s : State) : Type 0 where
   pub registers : length s.x ≡ 32
   pub zero : register s 0 ≡ 0
   pub whole : AreWhole s.pages
-  pub start : s.brk_start ≡ opened.brk_start
-  pub limit : s.heap_limit ≡ opened.heap_limit
+  pub layout : s.layout ≡ opened.layout
   pub end_page : s.brk_end % 4096 ≡ 0
-  pub end_from : opened.brk_start ≤ s.brk_end
-  pub end_to : s.brk_end ≤ opened.heap_limit
+  pub end_from : opened.layout.brk_start ≤ s.brk_end
+  pub end_to : s.brk_end ≤ opened.layout.heap_limit
   pub mapped : (number : ℕ) → is_some (get s.pages number) ≡ is_mapped opened s.brk_end number
 
-no_heap : (opened : State) (number : ℕ) → opened.brk_end ≡ opened.brk_start → is_some (get opened.pages number) ≡ is_mapped opened opened.brk_end number
+no_heap : (opened : State) (number : ℕ) → opened.brk_end ≡ opened.layout.brk_start → is_some (get opened.pages number) ≡ is_mapped opened opened.brk_end number
 no_heap opened number same =
-    let none : is_among (opened.brk_start / 4096) (opened.brk_end / 4096) number ≡ false = rw same (grind (arith, nat_tests)) in
+    let none : is_among (opened.layout.brk_start / 4096) (opened.brk_end / 4096) number ≡ false = rw same (grind (arith, nat_tests)) in
     rw none (or_none (is_some (get opened.pages number)))
   where
     or_none : (b : Bool) → b ≡ (b || false)
@@ -68,8 +69,7 @@ IsInRun-opened opened is = record {
   registers = is.registers;
   zero = is.zero;
   whole = whole_pages opened is;
-  start = refl;
-  limit = refl;
+  layout = refl;
   end_page = rw is.heap is.start;
   end_from = omega (arith, is.heap);
   end_to = omega (arith, is.heap, is.ordered);
@@ -84,8 +84,7 @@ pub record IsNext (s t : State) : Type 0 where
   pub registers : length t.x ≡ length s.x
   pub zero : register t 0 ≡ register s 0
   pub whole : AreWhole s.pages → AreWhole t.pages
-  pub start : t.brk_start ≡ s.brk_start
-  pub limit : t.heap_limit ≡ s.heap_limit
+  pub layout : t.layout ≡ s.layout
   pub brk_end : t.brk_end ≡ s.brk_end
   pub mapped : (number : ℕ) → is_some (get t.pages number) ≡ is_some (get s.pages number)
 
@@ -114,14 +113,13 @@ goes s rd value pc = record {
   registers = length-set_register s.x rd value;
   zero = zero-set_register s.x rd value;
   whole = λ whole. whole;
-  start = refl;
-  limit = refl;
+  layout = refl;
   brk_end = refl;
   mapped = λ number. refl;
 }
 
 goes_plainly : (s : State) (pc : ℕ) → IsNext s (gone_to s pc)
-goes_plainly s pc = record { count = refl; registers = refl; zero = refl; whole = λ whole. whole; start = refl; limit = refl; brk_end = refl; mapped = λ number. refl }
+goes_plainly s pc = record { count = refl; registers = refl; zero = refl; whole = λ whole. whole; layout = refl; brk_end = refl; mapped = λ number. refl }
 
 goes_with_bytes : (s : State) (address : ℕ) (bytes : List ℕ) (pc : ℕ) → IsNext s (gone_to (record s { pages = set_bytes s.pages address bytes }) pc)
 goes_with_bytes s address bytes pc = record {
@@ -129,8 +127,7 @@ goes_with_bytes s address bytes pc = record {
   registers = refl;
   zero = refl;
   whole = AreWhole-set_bytes s.pages address bytes;
-  start = refl;
-  limit = refl;
+  layout = refl;
   brk_end = refl;
   mapped = λ number. is_some-set_bytes s.pages address bytes number;
 }
@@ -191,8 +188,7 @@ IsInRun-next opened s t is next = record {
   registers = next.registers ∙ is.registers;
   zero = next.zero ∙ is.zero;
   whole = next.whole is.whole;
-  start = next.start ∙ is.start;
-  limit = next.limit ∙ is.limit;
+  layout = next.layout ∙ is.layout;
   end_page = rw next.brk_end is.end_page;
   end_from = rw next.brk_end is.end_from;
   end_to = rw next.brk_end is.end_to;
@@ -220,32 +216,31 @@ record IsNewEnd (s : State) (limit new : ℕ) : Type 0 where
   from : s.brk_end ≤ new
   to : new ≤ limit
 
-new_end : (s : State) (address : ℕ) (allowed : Bool) → is_break s address ≡ allowed → s.brk_end % 4096 ≡ 0 → s.heap_limit % 4096 ≡ 0 → s.brk_end ≤ s.heap_limit → IsNewEnd s s.heap_limit (if allowed then max s.brk_end (round_up 4096 address) else s.brk_end)
+new_end : (s : State) (address : ℕ) (allowed : Bool) → is_break s address ≡ allowed → s.brk_end % 4096 ≡ 0 → s.layout.heap_limit % 4096 ≡ 0 → s.brk_end ≤ s.layout.heap_limit → IsNewEnd s s.layout.heap_limit (if allowed then max s.brk_end (round_up 4096 address) else s.brk_end)
 new_end s address false is page limit below = record { page = page; from = omega arith; to = below }
 new_end s address true is page limit below =
-    let within : address ≤ s.heap_limit = leb-true address s.heap_limit (and_parts (nat_le s.brk_start address) (nat_le address s.heap_limit) is).1 in
+    let within : address ≤ s.layout.heap_limit = leb-true address s.layout.heap_limit (and_parts (nat_le s.layout.brk_start address) (nat_le address s.layout.heap_limit) is).1 in
     record { page = omega arith; from = omega arith; to = omega arith }
 
-IsInRun-brk : (opened s : State) (address : ℕ) → opened.heap_limit % 4096 ≡ 0 → IsInRun opened s → IsInRun opened (brk_done s address)
+IsInRun-brk : (opened s : State) (address : ℕ) → opened.layout.heap_limit % 4096 ≡ 0 → IsInRun opened s → IsInRun opened (brk_done s address)
 IsInRun-brk opened s address limit is =
-    let end = new_end s address (is_break s address) refl is.end_page (rw is.limit limit) (rw is.limit is.end_to) in
+    let end = new_end s address (is_break s address) refl is.end_page (rw is.layout limit) (rw is.layout is.end_to) in
     let new : ℕ = brk_mapped_end s address in
     let to : s.brk_end / 4096 + (new / 4096 - s.brk_end / 4096) ≡ new / 4096 = omega (arith, end.from) in
     record {
       registers = is.registers;
       zero = is.zero;
       whole = AreWhole-map_pages s.pages (s.brk_end / 4096) (new / 4096 - s.brk_end / 4096) is.whole;
-      start = is.start;
-      limit = is.limit;
+      layout = is.layout;
       end_page = end.page;
       end_from = omega (arith, is.end_from, end.from);
-      end_to = omega (arith, is.limit, end.to);
+      end_to = omega (arith, ap (λ (l : Layout). l.heap_limit) is.layout, end.to);
       mapped = λ number. ap is_some (get-map_pages s.pages (s.brk_end / 4096) (new / 4096 - s.brk_end / 4096) number)
           ∙ is_some-or_zeros (get s.pages number) (is_among (s.brk_end / 4096) (s.brk_end / 4096 + (new / 4096 - s.brk_end / 4096)) number)
           ∙ ap (λ n. is_some (get s.pages number) || is_among (s.brk_end / 4096) n number) to
           ∙ ap (λ b. b || is_among (s.brk_end / 4096) (new / 4096) number) (is.mapped number)
-          ∙ or_assoc (is_some (get opened.pages number)) (is_among (opened.brk_start / 4096) (s.brk_end / 4096) number) (is_among (s.brk_end / 4096) (new / 4096) number)
-          ∙ ap (λ b. is_some (get opened.pages number) || b) (sym (heap_grows opened.brk_start s.brk_end new number is.end_from end.from));
+          ∙ or_assoc (is_some (get opened.pages number)) (is_among (opened.layout.brk_start / 4096) (s.brk_end / 4096) number) (is_among (s.brk_end / 4096) (new / 4096) number)
+          ∙ ap (λ b. is_some (get opened.pages number) || b) (sym (heap_grows opened.layout.brk_start s.brk_end new number is.end_from end.from));
     }
 
 -- the bytes that a call brings
@@ -254,8 +249,7 @@ IsInRun-bytes opened s address bytes is = record {
   registers = is.registers;
   zero = is.zero;
   whole = AreWhole-set_bytes s.pages address bytes is.whole;
-  start = is.start;
-  limit = is.limit;
+  layout = is.layout;
   end_page = is.end_page;
   end_from = is.end_from;
   end_to = is.end_to;
@@ -266,7 +260,7 @@ one_of : (opened : State) (b : Bool) (s t : State) → IsInRun opened s → IsIn
 one_of opened true s t first second = first
 one_of opened false s t first second = second
 
-IsInRun-call : (opened s : State) (call : Call) (bytes : List ℕ) → opened.heap_limit % 4096 ≡ 0 → IsInRun opened s → IsInRun opened (call_done s call bytes)
+IsInRun-call : (opened s : State) (call : Call) (bytes : List ℕ) → opened.layout.heap_limit % 4096 ≡ 0 → IsInRun opened s → IsInRun opened (call_done s call bytes)
 IsInRun-call opened s call bytes limit is =
     one_of opened (is_outside call) (data_done s call bytes) (if call.number == brk_number then brk_done s (arg call 0) else s)
     (one_of opened (call.number == write_number) s (record s { pages = set_bytes s.pages (buffer call) bytes }) is (IsInRun-bytes opened s (buffer call) bytes is))
@@ -274,10 +268,10 @@ IsInRun-call opened s call bytes limit is =
 
 -- neither does it matter which call is next and whether the program runs
 IsInRun-next_call : (opened s : State) (n : ℕ) → IsInRun opened s → IsInRun opened (record s { next_call = n })
-IsInRun-next_call opened s n is = record { registers = is.registers; zero = is.zero; whole = is.whole; start = is.start; limit = is.limit; end_page = is.end_page; end_from = is.end_from; end_to = is.end_to; mapped = is.mapped }
+IsInRun-next_call opened s n is = record { registers = is.registers; zero = is.zero; whole = is.whole; layout = is.layout; end_page = is.end_page; end_from = is.end_from; end_to = is.end_to; mapped = is.mapped }
 
 IsInRun-status : (opened s : State) (status : RunState) → IsInRun opened s → IsInRun opened (record s { status = status })
-IsInRun-status opened s status is = record { registers = is.registers; zero = is.zero; whole = is.whole; start = is.start; limit = is.limit; end_page = is.end_page; end_from = is.end_from; end_to = is.end_to; mapped = is.mapped }
+IsInRun-status opened s status is = record { registers = is.registers; zero = is.zero; whole = is.whole; layout = is.layout; end_page = is.end_page; end_from = is.end_from; end_to = is.end_to; mapped = is.mapped }
 
 count-if : (b : Bool) (s t : State) (n : ℕ) → s.count ≡ n → t.count ≡ n → (if b then s else t).count ≡ n
 count-if true s t n first second = first
@@ -322,7 +316,7 @@ kept_exit opened s is = record {
   end_grows = le_refl s.brk_end;
 }
 
-kept_answer : (opened s : State) (entry : CallEntry) → opened.heap_limit % 4096 ≡ 0 → IsInRun opened s → GoesOn opened s (answered s entry)
+kept_answer : (opened s : State) (entry : CallEntry) → opened.layout.heap_limit % 4096 ≡ 0 → IsInRun opened s → GoesOn opened s (answered s entry)
 kept_answer opened s entry limit is =
     let done : State = call_done s (call_of s) entry.bytes in
     let next : State = gone_to (put_register done 10 entry.result) (after s) in
@@ -332,33 +326,33 @@ kept_answer opened s entry limit is =
       end_grows = end-call s (call_of s) entry.bytes;
     }
 
-kept_matched : (opened s : State) (entry : CallEntry) (diff : Option CallDiff) → opened.heap_limit % 4096 ≡ 0 → IsInRun opened s → IsKept opened s (matched s entry diff)
+kept_matched : (opened s : State) (entry : CallEntry) (diff : Option CallDiff) → opened.layout.heap_limit % 4096 ≡ 0 → IsInRun opened s → IsKept opened s (matched s entry diff)
 kept_matched opened s entry None limit is = kept_answer opened s entry limit is
 kept_matched opened s entry (Some diff) limit is = tt
 
-kept_called : (opened s : State) (ask : Ask) (entry : Option CallEntry) → opened.heap_limit % 4096 ≡ 0 → IsInRun opened s → IsKept opened s (called s ask entry)
+kept_called : (opened s : State) (ask : Ask) (entry : Option CallEntry) → opened.layout.heap_limit % 4096 ≡ 0 → IsInRun opened s → IsKept opened s (called s ask entry)
 kept_called opened s ask None limit is = tt
 kept_called opened s ask (Some entry) limit is = kept_matched opened s entry (first_difference entry ask) limit is
 
-kept_asked : (rec : Recording) (opened s : State) (ask : Option Ask) → opened.heap_limit % 4096 ≡ 0 → IsInRun opened s → IsKept opened s (asked rec s ask)
+kept_asked : (rec : Recording) (opened s : State) (ask : Option Ask) → opened.layout.heap_limit % 4096 ≡ 0 → IsInRun opened s → IsKept opened s (asked rec s ask)
 kept_asked rec opened s None limit is = kept_exit opened s is
 kept_asked rec opened s (Some ask) limit is = kept_called opened s ask (slice_get rec.calls s.next_call) limit is
 
-kept_step : (rec : Recording) (opened s : State) (next : Next) → opened.heap_limit % 4096 ≡ 0 → IsInRun opened s → LeadsOn s next → IsKept opened s (stepped rec s next)
+kept_step : (rec : Recording) (opened s : State) (next : Next) → opened.layout.heap_limit % 4096 ≡ 0 → IsInRun opened s → LeadsOn s next → IsKept opened s (stepped rec s next)
 kept_step rec opened s (Stepped t) limit is leads = record { in_run = IsInRun-next opened s t is leads; count = leads.count; end_grows = omega (arith, leads.brk_end) }
 kept_step rec opened s Called limit is leads = kept_asked rec opened s (ask_of s) limit is
 kept_step rec opened s (Trapped number) limit is leads = tt
 
-kept_in : (rec : Recording) (opened s : State) (status : RunState) → opened.heap_limit % 4096 ≡ 0 → IsInRun opened s → IsKept opened s (onward_in rec s status)
+kept_in : (rec : Recording) (opened s : State) (status : RunState) → opened.layout.heap_limit % 4096 ≡ 0 → IsInRun opened s → IsKept opened s (onward_in rec s status)
 kept_in rec opened s Running limit is = kept_step rec opened s (step s) limit is (LeadsOn-step s)
 kept_in rec opened s (Exited code) limit is = tt
 
-kept : (rec : Recording) (opened s : State) → opened.heap_limit % 4096 ≡ 0 → IsInRun opened s → IsKept opened s (onward rec s)
+kept : (rec : Recording) (opened s : State) → opened.layout.heap_limit % 4096 ≡ 0 → IsInRun opened s → IsKept opened s (onward rec s)
 unfolding onward
 kept rec opened s limit is = kept_in rec opened s s.status limit is
 
 -- from any state whose heap ends at a page
-pub IsInRun-kept : (rec : Recording) (opened s t : State) → opened.heap_limit % 4096 ≡ 0 → IsInRun opened s → onward rec s ≡ Goes t → GoesOn opened s t
+pub IsInRun-kept : (rec : Recording) (opened s t : State) → opened.layout.heap_limit % 4096 ≡ 0 → IsInRun opened s → onward rec s ≡ Goes t → GoesOn opened s t
 IsInRun-kept rec opened s t limit is goes = subst (IsKept opened s) goes (kept rec opened s limit is)
 
 pub IsInRun-onward : (rec : Recording) (opened s t : State) → IsOpened opened → IsInRun opened s → onward rec s ≡ Goes t → GoesOn opened s t

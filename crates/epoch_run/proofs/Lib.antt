@@ -1,6 +1,5 @@
 mod Counts
 mod Between
-mod Mapped
 mod InRun
 mod Recorded
 mod SameState

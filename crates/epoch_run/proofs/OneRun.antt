@@ -14,11 +14,12 @@ use Rattle.rec_format.specs.Rules.{IsRecordingValue}
 use Rattle.rec_format.specs.declared.recording.Recording.{Recording}
 use Rattle.rec_format.specs.declared.recording.CheckpointData.{CheckpointData}
 use Rattle.replay.specs.Run.{onward, run_from}
-use Rattle.replay.specs.Breaks.{checkpoint_break, listed_break, end_break, at_count, listed_or, break_after, first_break_from, first_break}
-use Rattle.replay.specs.Recorded.{checkpoint_at, recorded_state, recorded_count}
+use Rattle.replay.specs.Breaks.{listed_break, end_break, at_count, listed_or, break_after, first_break_from, first_break}
+use Rattle.rec_format.specs.Recorded.{end_place, checkpoint_at, recorded_state, recorded_count}
+use Rattle.rec_format.specs.Compared.{checkpoint_break}
 use Rattle.epoch_cut.specs.Places.{IsCutting}
 use Rattle.epoch_run.specs.Records.{Tracers, records_after, records_from, records}
-use Rattle.epoch_run.specs.Epochs.{end_place, between, epoch_size, epoch_break_from, epoch_break, epoch_records_from, epoch_records}
+use Rattle.epoch_run.specs.Epochs.{between, epoch_size, epoch_break_from, epoch_break, epoch_records_from, epoch_records}
 use Rattle.epoch_run.specs.EpochLaws.{epochs_of, break_of, records_of, NoneBreaks, StartsOnTheRun, LeastBreakIsFirst, BreaksWithTheRun, RecordsOfTheRun}
 use Rattle.epoch_run.specs.Opened.{IsOpened}
 use Rattle.epoch_run.proofs.Counts.{counts_rise, checkpoint_at-suc}

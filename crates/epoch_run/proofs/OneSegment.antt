@@ -1,24 +1,27 @@
 -- A segment that starts at the recorded state of its first checkpoint.
 use Rattle.std.proofs.Common.{◌≡◌, ℕ, ◌+◌, ◌-◌, ◌<◌, ◌≤◌, List, ◌++◌, Some, None, refl, sym, ap, ◌∙◌, arith}
 use Rattle.std.specs.Option.{option_or}
-use Rattle.sl_model.specs.Pages.{Pages}
+use Rattle.sl_base.specs.declared.refused.Refused.{Refused}
+use Rattle.sl_base.specs.declared.refused.Refused.TheVariants as refused
 use Rattle.sl_model.specs.State.{State}
 use Rattle.call_log.specs.declared.breaks.Break.{Break}
 use Rattle.tracer_lang.specs.declared.record.Record.{Record}
 use Rattle.rec_format.specs.Rules.{IsRecordingValue}
 use Rattle.rec_format.specs.declared.recording.Recording.{Recording}
 use Rattle.replay.specs.Run.{run_from}
-use Rattle.replay.specs.Breaks.{at_count, checkpoint_break}
-use Rattle.replay.specs.Recorded.{checkpoint_at, recorded_state, recorded_count}
+use Rattle.replay.specs.Breaks.{at_count}
+use Rattle.rec_format.specs.Recorded.{end_place, checkpoint_at, recorded_state, recorded_count}
+use Rattle.rec_format.specs.Compared.{checkpoint_break}
 use Rattle.epoch_run.specs.Records.{Tracers}
-use Rattle.epoch_run.specs.Epochs.{end_place, epoch_size, epoch_break_from, epoch_break, epoch_records_from, epoch_records, closing_break, closing_records}
+use Rattle.epoch_run.specs.Epochs.{epoch_size, epoch_break_from, epoch_break, epoch_records_from, epoch_records, closing_break, closing_records}
 use Rattle.epoch_run.specs.Opened.{IsOpened}
-use Rattle.epoch_run.specs.Segments.{IsUnderWay}
+use Rattle.epoch_run.specs.Segments.{IsUnderWay, BrokeOff, StopsAt}
 use Rattle.epoch_run.proofs.Recorded.{count-recorded}
 use Rattle.epoch_run.proofs.Arrived.{run-zero}
 use Rattle.epoch_run.proofs.OneRun.{run_joins}
 use Rattle.epoch_run.proofs.SoFar.{counts_up}
 
+-- the interval from checkpoint j to the next one, at its first state
 pub record IsSegment (rec : Recording) (opened : State) (j : ℕ) (s : State) (upto : ℕ) : Type 0 where
   pub value : IsRecordingValue rec
   pub opens : IsOpened opened
@@ -47,8 +50,9 @@ module _ (rec : Recording) (opened : State) (j : ℕ) (s : State) (upto : ℕ) (
       ∙ ap (λ t. epoch_break_from opened.pages rec j (j + 1) t (epoch_size rec j (j + 1))) is.at
 
   -- where it breaks before its end
-  pub segment_breaks : (broken : Break) → ((pages : Pages) (a b : ℕ) → a + 1 ≡ b → epoch_break_from pages rec a b s (upto - s.count) ≡ Some broken) → Some broken ≡ epoch_break rec opened j (j + 1)
-  segment_breaks broken breaks = sym (breaks opened.pages j (j + 1) refl) ∙ break_is
+  pub segment_stops : (stop : Refused Break) → BrokeOff rec s (upto - s.count) stop → StopsAt stop (epoch_break rec opened j (j + 1))
+  segment_stops refused.Memory breaks = tt
+  segment_stops (refused.Fault broken) breaks = sym (sym (breaks opened.pages j (j + 1) refl) ∙ break_is)
 
   -- where it comes to its end
   module _ (tracers : Tracers) (t : State) (old new : List Record) (way : IsUnderWay rec tracers s (upto - s.count) t 0 old new) where

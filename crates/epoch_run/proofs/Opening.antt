@@ -8,14 +8,16 @@ use Rattle.std.proofs.lemmas.Bool.{or_cases, and_parts, ltb-true, eqb-false}
 use Rattle.std.proofs.Math.ListN.{length-set}
 use Rattle.sl_model.specs.Pages.{Pages, set_bytes}
 use Rattle.sl_model.specs.PagesLaws.{AreWhole, is_some-set_bytes}
-use Rattle.sl_model.specs.State.{MEMORY_END}
+use Rattle.sl_model.specs.declared.layout.TheConstants.{MEMORY_END}
 use Rattle.elf_image.specs.declared.image.Image.{Image}
 use Rattle.elf_image.specs.declared.image.Segment.{Segment}
 use Rattle.elf_image.specs.Flat.{FIRST_STACK_PAGE, STACK_PAGES, page_count, meets_stack, one_segment, flat_fault, flat_image}
 use Rattle.elf_image.specs.declared.fault.ImageCause.TheVariants.{SegmentRange, Overlap}
-use Rattle.replay.specs.Opening.{map_pages, map_segment, map_segments, mapped, fill_segments, opening_pages, stack_pointer, round_up, highest_end, heap_start, opening}
+use Rattle.replay.specs.Opening.{map_segment, map_segments, mapped, fill_segments, opening_pages, stack_pointer, round_up, highest_end, heap_start, opening}
+use Rattle.sl_model.specs.Mapping.{map_pages}
 use Rattle.epoch_run.specs.Opened.{IsOpened, IsInMemory}
-use Rattle.epoch_run.proofs.Mapped.{is_among, get-map_pages, is_some-or_zeros, AreWhole-map_pages, AreWhole-set_bytes}
+use Rattle.sl_model.proofs.Mapping.{is_among, get-map_pages, is_some-or_zeros, AreWhole-map_pages}
+use Rattle.sl_model.proofs.WholePages.{AreWhole-set_bytes}
 
 -- ---- pages below 2 ^ 32
 

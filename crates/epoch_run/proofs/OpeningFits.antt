@@ -9,13 +9,15 @@ use Rattle.std.proofs.lemmas.List.{length-map}
 use Rattle.std.proofs.lemmas.List.Filters.{length-filter_both}
 use Rattle.sl_model.specs.Pages.{Pages}
 use Rattle.sl_model.specs.PagesLaws.{is_some-set_bytes}
-use Rattle.sl_model.specs.State.{Fits, MEMORY_END}
+use Rattle.sl_model.specs.State.{Fits}
+use Rattle.sl_model.specs.declared.layout.TheConstants.{MEMORY_END}
 use Rattle.elf_image.specs.declared.image.Image.{Image}
 use Rattle.elf_image.specs.declared.fault.ImageCause.TheVariants.{SegmentRange, Overlap}
 use Rattle.elf_image.specs.Flat.{FIRST_STACK_PAGE, STACK_PAGES, page_count, meets_stack, one_segment, flat_fault, flat_image}
-use Rattle.replay.specs.Opening.{zero_page, map_page, map_pages, map_segments, mapped, fill_segments, opening_pages, round_up, heap_start, heap_limit, opening}
+use Rattle.replay.specs.Opening.{map_segments, mapped, fill_segments, opening_pages, round_up, heap_start, heap_limit, opening}
+use Rattle.sl_model.specs.Mapping.{zero_page, map_page, map_pages}
 use Rattle.epoch_run.specs.Opened.{IsOpened}
-use Rattle.epoch_run.proofs.Mapped.{is_among, get-map_pages, is_some-or_zeros}
+use Rattle.sl_model.proofs.Mapping.{is_among, get-map_pages, is_some-or_zeros}
 use Rattle.epoch_run.proofs.Opening.{IsOpened-opening}
 use Rattle.epoch_run.proofs.Fitting.{is_outside, same_number}
 
@@ -171,11 +173,13 @@ module _ (address : ℕ) (bytes : List ℕ) (args : List (List ℕ)) (flat : IsF
   fits =
       let is = opened_is in
       record {
-        start = is.start;
-        limit = is.limit;
-        ordered = is.ordered;
-        below_end = is.below_end;
-        size = within_size (heap_start image);
+        layout = record {
+          start = is.start;
+          limit = is.limit;
+          ordered = is.ordered;
+          below_end = is.below_end;
+          size = within_size (heap_start image);
+        };
         mapped_end = is.start;
         end_from = le_refl (heap_start image);
         end_to = is.ordered;

@@ -5,15 +5,15 @@ use Rattle.std.proofs.Common.{◌≡◌, ℕ, zero, suc, ◌+◌, ◌-◌, ◌<�
 use Rattle.std.proofs.lemmas.Bool.{cases_eq}
 use Rattle.std.proofs.lemmas.List.FromFn.{length-map-range_with_len, get_or-map-range_with_len}
 use Rattle.std.proofs.lemmas.Option.{slice_get-get_or}
-use Rattle.sl_model.specs.State.{State}
 use Rattle.rec_format.specs.Rules.{IsRecordingValue}
 use Rattle.rec_format.specs.declared.recording.Recording.{Recording}
+use Rattle.epoch_core.specs.declared.post.PostValue.{PostValue}
 use Rattle.epoch_core.specs.declared.post.PostValue.TheVariants as post
 use Rattle.epoch_cut.specs.Places.{IsCutting}
-use Rattle.epoch_run.specs.Records.{Tracers}
-use Rattle.epoch_run.specs.Epochs.{end_place}
+use Rattle.rec_format.specs.Recorded.{end_place}
 use Rattle.epoch_run.specs.EpochLaws.{epochs_of}
-use Rattle.epoch_run.specs.Plans.{value_at, values_of}
+use Rattle.epoch_run.specs.declared.plan.Plan.{Plan}
+use Rattle.epoch_run.specs.Plans.{posted, value_in, values_of}
 use Rattle.epoch_run.proofs.OneRun.{are}
 
 -- ---- where an epoch stands
@@ -56,12 +56,12 @@ few_epochs rec places is cut =
 
 -- ---- their values
 
-pub length-values : (rec : Recording) (opened : State) (tracers : Tracers) (places : List ℕ) → length (values_of rec opened tracers places) ≡ epochs_of places
-length-values rec opened tracers places = length-map-range_with_len (value_at rec opened tracers places) 0 (epochs_of places)
+pub length-values : (plan : Plan) → length (values_of plan) ≡ epochs_of plan.cutting
+length-values plan = length-map-range_with_len (λ k. posted (value_in plan k)) 0 (epochs_of plan.cutting)
 
-pub slice_get-values : (rec : Recording) (opened : State) (tracers : Tracers) (places : List ℕ) (k : ℕ) → k < epochs_of places → slice_get (values_of rec opened tracers places) k ≡ Some (value_at rec opened tracers places k)
-slice_get-values rec opened tracers places k within =
-    let values = value_at rec opened tracers places in
+pub slice_get-values : (plan : Plan) (k : ℕ) → k < epochs_of plan.cutting → slice_get (values_of plan) k ≡ Some (posted (value_in plan k))
+slice_get-values plan k within =
+    let values : ℕ → PostValue = λ j. posted (value_in plan j) in
     let none = post.Skipped 0 in
-    slice_get-get_or (values_of rec opened tracers places) k none (omega (arith, length-values rec opened tracers places))
-    ∙ ap Some (get_or-map-range_with_len values 0 (epochs_of places) k k none within (zero-add k))
+    slice_get-get_or (values_of plan) k none (omega (arith, length-values plan))
+    ∙ ap Some (get_or-map-range_with_len values 0 (epochs_of plan.cutting) k k none within (zero-add k))

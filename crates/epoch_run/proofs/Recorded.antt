@@ -14,11 +14,10 @@ use Rattle.rec_format.specs.Rules.{IsRecordingValue, IsCheckpoint, IsListedPage}
 use Rattle.rec_format.specs.declared.recording.Recording.{Recording}
 use Rattle.rec_format.specs.declared.recording.CheckpointData.{CheckpointData}
 use Rattle.rec_format.specs.declared.recording.ListedPage.{ListedPage}
-use Rattle.replay.specs.Opening.{zero_page, map_pages}
-use Rattle.replay.specs.Breaks.{all_checkpoints, listings, last_listing, recorded_page}
-use Rattle.replay.specs.Recorded.{recorded_end, put_listed, put_all_listed, recorded_pages, recorded_state_of, recorded_state, recorded_count, checkpoint_at, checkpoint_or_last}
+use Rattle.sl_model.specs.Mapping.{zero_page, map_pages}
+use Rattle.rec_format.specs.Recorded.{all_checkpoints, listed_to, last_listing, recorded_page, recorded_end, put_listed, put_all_listed, recorded_pages, recorded_state_of, recorded_state, recorded_count, checkpoint_at}
 use Rattle.epoch_run.specs.Opened.{IsOpened}
-use Rattle.epoch_run.proofs.Mapped.{or_zeros, is_among, get-map_pages}
+use Rattle.sl_model.proofs.Mapping.{or_zeros, is_among, get-map_pages}
 use Rattle.epoch_run.proofs.InRun.{IsInRun, IsInRun-opened, is_mapped}
 
 -- ---- listed pages in memory
@@ -76,14 +75,14 @@ map_or_zeros f (Some page) mapped = refl
 map_or_zeros f None true = refl
 map_or_zeros f None false = refl
 
-pub get-recorded_pages : (rec : Recording) (opened : State) (k brk_end number : ℕ) → opened.brk_start % 4096 ≡ 0 → opened.brk_start ≤ brk_end
+pub get-recorded_pages : (rec : Recording) (opened : State) (k brk_end number : ℕ) → opened.layout.brk_start % 4096 ≡ 0 → opened.layout.brk_start ≤ brk_end
     → get (recorded_pages rec opened k brk_end) number ≡ cond (is_mapped opened brk_end number) (Some (recorded_page opened.pages rec k number)) None
 get-recorded_pages rec opened k brk_end number aligned above =
-    let first : ℕ = opened.brk_start / 4096 in
-    let count : ℕ = (brk_end - opened.brk_start) / 4096 in
+    let first : ℕ = opened.layout.brk_start / 4096 in
+    let count : ℕ = (brk_end - opened.layout.brk_start) / 4096 in
     let stop : first + count ≡ brk_end / 4096 = omega arith in
-    let listing : List ℕ → List ℕ = λ old. last_listing old (listings rec k) number in
-    get-put_all_listed (map_pages opened.pages first count) (listings rec k) number
+    let listing : List ℕ → List ℕ = λ old. last_listing old (listed_to rec k) number in
+    get-put_all_listed (map_pages opened.pages first count) (listed_to rec k) number
     ∙ ap (option_map listing) (get-map_pages opened.pages first count number)
     ∙ map_or_zeros listing (get opened.pages number) (is_among first (first + count) number)
     ∙ ap (λ n. cond (is_some (get opened.pages number) || is_among first n number) (Some (recorded_page opened.pages rec k number)) None) stop
@@ -114,7 +113,7 @@ whole_or_zeros (Some page) whole = whole
 
 pub length-recorded_page : (rec : Recording) (opened : Pages) (k number : ℕ) → IsRecordingValue rec → AreWhole opened → length (recorded_page opened rec k number) ≡ 4096
 length-recorded_page rec opened k number is whole =
-    length-last_listing (unwrap_or (get opened number) zero_page) (listings rec k) number (whole_or_zeros (get opened number) (whole number))
+    length-last_listing (unwrap_or (get opened number) zero_page) (listed_to rec k) number (whole_or_zeros (get opened number) (whole number))
     (all_listed (all_checkpoints rec) k (all_append IsCheckpoint rec.checkpoints (rec.last ∷ []) is.each_checkpoint (is.last, tt)))
 
 -- ---- the state
@@ -124,7 +123,7 @@ some_is P [] i all = tt
 some_is P (x ∷ xs) zero all = all.0
 some_is P (x ∷ xs) (suc i) all = some_is P xs i all.1
 
-or_last_is : (rec : Recording) (o : Option CheckpointData) → IfSome o IsCheckpoint → IsCheckpoint rec.last → IsCheckpoint (checkpoint_or_last rec o)
+or_last_is : (rec : Recording) (o : Option CheckpointData) → IfSome o IsCheckpoint → IsCheckpoint rec.last → IsCheckpoint (unwrap_or o rec.last)
 or_last_is rec None it last = last
 or_last_is rec (Some c) it last = it
 
@@ -142,8 +141,8 @@ some_chosen false page = refl
 -- the mapped end that is recorded fits, whatever the checkpoint says
 record IsEnd (opened : State) (brk_end : ℕ) : Type 0 where
   page : brk_end % 4096 ≡ 0
-  from : opened.brk_start ≤ brk_end
-  to : brk_end ≤ opened.heap_limit
+  from : opened.layout.brk_start ≤ brk_end
+  to : brk_end ≤ opened.layout.heap_limit
 
 is_end : (opened : State) (brk_end : ℕ) → IsOpened opened → IsEnd opened (recorded_end opened brk_end)
 is_end opened brk_end is =
@@ -166,8 +165,7 @@ IsInRun-recorded rec opened (suc k) is opens =
       registers = ap suc (IsCheckpoint-at rec (suc k) is).x.number;
       zero = refl;
       whole = λ number. subst (λ (o : Option (List ℕ)). IfSome o (λ p. length p ≡ 4096)) (sym (pages number)) (whole_chosen (is_mapped opened brk_end number) (recorded_page opened.pages rec (suc k) number) (length-recorded_page rec opened.pages (suc k) number is old.whole));
-      start = refl;
-      limit = refl;
+      layout = refl;
       end_page = fits.page;
       end_from = fits.from;
       end_to = fits.to;

@@ -1,7 +1,7 @@
 -- Epochs on rows that were worked by hand: li a0, 5; li a7, 93; ecall at 0x10000, which exits with 5 at count 3. Its
 -- memory is one page of twelve bytes.
 use Rattle.std.specs.Prelude.{◌+◌, ◌*◌}
-use Rattle.std.proofs.Common.{◌≡◌, ℕ, suc, List, [], ◌∷◌, replicate, Option, Some, None, refl, sym, ap, ap₂, ◌∙◌, ◌++◌, eq-eqb}
+use Rattle.std.proofs.Common.{◌≡◌, ℕ, suc, List, [], ◌∷◌, replicate, Option, Some, None, Ok, Err, refl, sym, ap, ap₂, ◌∙◌, ◌++◌, eq-eqb}
 use Rattle.std.specs.Ordering.{nat_cmp}
 use Rattle.std.specs.FinMap.{get, from_sorted, get-from_sorted}
 use Rattle.sl_model.specs.declared.run_state.RunState.{RunState}
@@ -18,12 +18,13 @@ use Rattle.rec_format.specs.declared.recording.Recording.{Recording}
 use Rattle.rec_format.specs.declared.recording.CheckpointData.{CheckpointData}
 use Rattle.tracer_lang.specs.declared.record.Record.{Record}
 use Rattle.tracer_lang.specs.declared.record.TracerEnd.TheVariants.{Done}
-use Rattle.replay.specs.Opening.{map_pages}
 use Rattle.replay.specs.Run.{Goes, Breaks, onward}
-use Rattle.replay.specs.Breaks.{PartDiff, bytes_diff, page_diff, pages_diff, listings, PAGE_NUMBERS, machine_diff, checkpoint_diff, listed_break, listed_or, break_after}
-use Rattle.replay.specs.Recorded.{put_all_listed, recorded_state_of, recorded_state, checkpoint_at}
+use Rattle.replay.specs.Breaks.{listed_break, listed_or, break_after}
+use Rattle.sl_model.specs.Mapping.{map_pages}
+use Rattle.rec_format.specs.Recorded.{end_place, listed_to, put_all_listed, recorded_state_of, recorded_state, checkpoint_at}
+use Rattle.rec_format.specs.Compared.{PartDiff, bytes_diff, page_diff, pages_diff, PAGE_NUMBERS, machine_diff, checkpoint_diff}
 use Rattle.epoch_run.specs.Records.{Tracers, emit_at, records_after}
-use Rattle.epoch_run.specs.Epochs.{epoch_break_from, epoch_break, epoch_records_from, epoch_records, epoch_value, value_of, Ran, Broke, between, end_place}
+use Rattle.epoch_run.specs.Epochs.{epoch_break_from, epoch_break, epoch_records_from, epoch_records, epoch_value, value_of, between}
 
 -- ---- the program
 
@@ -45,7 +46,7 @@ registers a0 a7 = 0 ∷ 0 ∷ 0 ∷ 0 ∷ 0 ∷ 0 ∷ 0 ∷ 0 ∷ 0 ∷ a0 ∷ 0
 
 abbrev at : ℕ → ℕ → ℕ → ℕ → RunState → State
 at pc a0 a7 count status =
-    record { pc = pc; x = 0 ∷ registers a0 a7; pages = memory; brk = 0x11000; brk_end = 0x11000; next_call = 0; status = status; count = count; brk_start = 0x11000; heap_limit = 0x1011000 }
+    record { pc = pc; x = 0 ∷ registers a0 a7; pages = memory; brk = 0x11000; brk_end = 0x11000; next_call = 0; status = status; count = count; layout = record { brk_start = 0x11000; heap_limit = 0x1011000 } }
 
 abbrev opened : State
 opened = at 0x10000 0 0 0 Running
@@ -98,16 +99,16 @@ same_bytes : (address : ℕ) (bytes : List ℕ) → bytes_diff address bytes byt
 same_bytes address [] = refl
 same_bytes address (b ∷ bs) = rw (eq-eqb b b refl) (same_bytes (address + 1) bs)
 
-same_page : (rec : Recording) (k number : ℕ) (page : Option (List ℕ)) → listings rec k ≡ [] → get memory number ≡ page → page_diff memory rec k number page ≡ None
+same_page : (rec : Recording) (k number : ℕ) (page : Option (List ℕ)) → listed_to rec k ≡ [] → get memory number ≡ page → page_diff memory rec k number page ≡ None
 same_page rec k number None none found = rw none refl
 same_page rec k number (Some bytes) none found = rw (found, none) (same_bytes (number * 4096) bytes)
 
-same_pages : (rec : Recording) (k : ℕ) (s : State) (numbers : List ℕ) → listings rec k ≡ [] → s.pages ≡ memory → pages_diff memory rec k s numbers ≡ None
+same_pages : (rec : Recording) (k : ℕ) (s : State) (numbers : List ℕ) → listed_to rec k ≡ [] → s.pages ≡ memory → pages_diff memory rec k s numbers ≡ None
 same_pages rec k s [] none same = refl
 same_pages rec k s (number ∷ numbers) none same = rw (same_page rec k number (get s.pages number) none (ap (λ (pages : Pages). get pages number) (sym same))) (same_pages rec k s numbers none same)
 
 -- a checkpoint is compared by the parts that are no memory
-compared : (rec : Recording) (k : ℕ) (middle : CheckpointData) (s : State) (diff : Option PartDiff) → listings rec k ≡ [] → s.pages ≡ memory → machine_diff middle s ≡ diff → checkpoint_diff memory rec k middle s ≡ diff
+compared : (rec : Recording) (k : ℕ) (middle : CheckpointData) (s : State) (diff : Option PartDiff) → listed_to rec k ≡ [] → s.pages ≡ memory → machine_diff middle s ≡ diff → checkpoint_diff memory rec k middle s ≡ diff
 unfolding checkpoint_diff
 compared rec k middle s None none same is = rw is (same_pages rec k s PAGE_NUMBERS none same)
 compared rec k middle s (Some diff) none same is = rw is refl
@@ -230,8 +231,8 @@ none_at_stop = refl
 
 -- ---- values
 
-ran : epoch_value honest opened tracers 1 2 ≡ Ran (at_the_call ∷ [])
+ran : epoch_value honest opened tracers 1 2 ≡ Ok (at_the_call ∷ [])
 ran = ap₂ value_of fires no_break_behind
 
-broke : epoch_value forged opened tracers 0 1 ≡ Broke (record { count = 2; kind = CheckpointDiffers 1 10 0 6 5 })
+broke : epoch_value forged opened tracers 0 1 ≡ Err (record { count = 2; kind = CheckpointDiffers 1 10 0 6 5 })
 broke = ap (value_of (epoch_records forged opened tracers 0 1)) break_at_b

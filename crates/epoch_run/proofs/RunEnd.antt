@@ -1,16 +1,17 @@
 -- Where a run that does not break comes to.
-use Rattle.std.proofs.Common.{◌≡◌, ℕ, zero, suc, ◌+◌, List, ◌∷◌, length, Option, Some, None, refl, sym, ap, subst, ◌∙◌, arith}
+use Rattle.std.proofs.Common.{◌≡◌, ℕ, zero, suc, ◌+◌, ◌∷◌, length, Option, Some, None, refl, sym, ap, ◌∙◌, arith}
 use Rattle.sl_model.specs.State.{State}
 use Rattle.call_log.specs.declared.breaks.BreakKind.{BreakKind}
 use Rattle.rec_format.specs.Rules.{IsRecordingValue}
 use Rattle.rec_format.specs.declared.recording.Recording.{Recording}
 use Rattle.rec_format.specs.declared.recording.CheckpointData.{CheckpointData}
 use Rattle.replay.specs.Run.{run_from}
-use Rattle.replay.specs.Breaks.{PartDiff, machine_diff, pages_diff, PAGE_NUMBERS, checkpoint_diff, as_checkpoint_break, checkpoint_break, at_count, first_break}
-use Rattle.replay.specs.Recorded.{checkpoint_at}
-use Rattle.epoch_run.specs.Epochs.{end_place, closing_break, epoch_break_from}
+use Rattle.replay.specs.Breaks.{at_count}
+use Rattle.rec_format.specs.Recorded.{end_place, checkpoint_at}
+use Rattle.rec_format.specs.Compared.{PartDiff, machine_diff, pages_diff, PAGE_NUMBERS, checkpoint_diff, as_checkpoint_break, checkpoint_break}
+use Rattle.epoch_run.specs.Epochs.{closing_break, epoch_break_from}
 use Rattle.epoch_run.specs.Opened.{IsOpened}
-use Rattle.epoch_run.specs.EpochLaws.{IsAtEnd, ComesToTheEnd}
+use Rattle.epoch_run.specs.EpochLaws.{ComesToTheEnd}
 use Rattle.epoch_run.proofs.InRun.{IsInRun, IsInRun-opened, IsInRun-onward}
 use Rattle.epoch_run.proofs.SameState.{IsSameMachine, first_none, same_machine, all_registers}
 use Rattle.epoch_run.proofs.Arrived.{goes_onto, run-suc, run-zero}

@@ -12,10 +12,10 @@ use Rattle.sl_model.specs.State.{State}
 use Rattle.rec_format.specs.Rules.{IsRecordingValue}
 use Rattle.rec_format.specs.declared.recording.Recording.{Recording}
 use Rattle.rec_format.specs.declared.recording.CheckpointData.{CheckpointData}
-use Rattle.replay.specs.Breaks.{PartDiff, part_diff, parts_diff, bytes_diff, page_diff, pages_diff, recorded_page, PAGE_NUMBERS, machine_diff, checkpoint_diff}
-use Rattle.replay.specs.Recorded.{recorded_end, recorded_pages, recorded_state_of, recorded_state, recorded_count, checkpoint_at}
+use Rattle.rec_format.specs.Recorded.{recorded_page, recorded_end, recorded_pages, recorded_state_of, recorded_state, recorded_count, checkpoint_at}
+use Rattle.rec_format.specs.Compared.{PartDiff, part_diff, parts_diff, bytes_diff, page_diff, pages_diff, PAGE_NUMBERS, machine_diff, checkpoint_diff}
 use Rattle.epoch_run.specs.Opened.{IsOpened}
-use Rattle.epoch_run.proofs.Mapped.{is_among}
+use Rattle.sl_model.proofs.Mapping.{is_among}
 use Rattle.epoch_run.proofs.InRun.{IsInRun, IsInRun-opened, is_mapped}
 use Rattle.epoch_run.proofs.Recorded.{get-recorded_pages, length-recorded_page, IsCheckpoint-at}
 
@@ -132,13 +132,13 @@ same_page opened rec k number None long whole none = refl
 same_page opened rec k number (Some bytes) long whole none = ap Some (sym (same_bytes (number * 4096) (recorded_page opened rec k number) bytes (long ∙ sym whole) none))
 
 -- pages of a program have numbers below 2 ^ 20
-below_all : (opened : State) (brk_end number : ℕ) → IsOpened opened → brk_end ≤ opened.heap_limit → is_mapped opened brk_end number ≡ true → number < 2 ^ 20
+below_all : (opened : State) (brk_end number : ℕ) → IsOpened opened → brk_end ≤ opened.layout.heap_limit → is_mapped opened brk_end number ≡ true → number < 2 ^ 20
 below_all opened brk_end number is to mapped = ⊎_elim
     (λ (stood : is_some (get opened.pages number) ≡ true). of (get opened.pages number) stood (is.pages number))
-    (λ (heap : is_among (opened.brk_start / 4096) (brk_end / 4096) number ≡ true).
-    let below : number < brk_end / 4096 = ltb-true number (brk_end / 4096) (and_parts (nat_le (opened.brk_start / 4096) number) (nat_lt number (brk_end / 4096)) heap).1 in
+    (λ (heap : is_among (opened.layout.brk_start / 4096) (brk_end / 4096) number ≡ true).
+    let below : number < brk_end / 4096 = ltb-true number (brk_end / 4096) (and_parts (nat_le (opened.layout.brk_start / 4096) number) (nat_lt number (brk_end / 4096)) heap).1 in
     omega (arith, is.below_end))
-    (or_cases (is_some (get opened.pages number)) (is_among (opened.brk_start / 4096) (brk_end / 4096) number) mapped)
+    (or_cases (is_some (get opened.pages number)) (is_among (opened.layout.brk_start / 4096) (brk_end / 4096) number) mapped)
   where
     of : (page : Option (List ℕ)) → is_some page ≡ true → IfSome page (λ p. (number < 2 ^ 20) × (length p ≡ 4096)) → number < 2 ^ 20
     of None some is = absurd cc
@@ -173,7 +173,7 @@ same_pages rec opened k s is opens runs none = same_map nat_cmp_total nat_cmp-Is
 -- ---- the whole state
 
 -- an end that fits is recorded as it stands
-end_stays : (opened : State) (brk_end : ℕ) → brk_end % 4096 ≡ 0 → opened.brk_start ≤ brk_end → brk_end ≤ opened.heap_limit → recorded_end opened brk_end ≡ brk_end
+end_stays : (opened : State) (brk_end : ℕ) → brk_end % 4096 ≡ 0 → opened.layout.brk_start ≤ brk_end → brk_end ≤ opened.layout.heap_limit → recorded_end opened brk_end ≡ brk_end
 end_stays opened brk_end page from to = omega arith
 
 pub same_state : (rec : Recording) (opened : State) (k : ℕ) (s : State) → IsRecordingValue rec → IsOpened opened → IsInRun opened s → 0 < k → s.status ≡ Running → s.count ≡ recorded_count rec k
@@ -199,6 +199,5 @@ same_state rec opened (suc k) s is opens runs some status count none =
       next_call = next_call i;
       status = status i;
       count = count i;
-      brk_start = runs.start i;
-      heap_limit = runs.limit i;
+      layout = runs.layout i;
     }

@@ -2,14 +2,18 @@
 use Rattle.std.proofs.Common.{◌≡◌, ℕ, zero, suc, ◌+◌, ◌-◌, ◌<◌, ◌≤◌, ⊎_elim, List, [], ◌++◌, Some, None, refl, sym, ap, subst, ◌∙◌, arith}
 use Rattle.std.specs.Option.{option_or}
 use Rattle.std.proofs.lemmas.Bool.{cases_eq}
+use Rattle.sl_base.specs.declared.refused.Refused.{Refused}
+use Rattle.sl_base.specs.declared.refused.Refused.TheVariants as refused
+use Rattle.sl_base.specs.Refusals.{Fails}
 use Rattle.sl_model.specs.State.{State}
 use Rattle.call_log.specs.declared.breaks.Break.{Break}
 use Rattle.tracer_lang.specs.declared.record.Record.{Record}
 use Rattle.rec_format.specs.Rules.{IsRecordingValue}
 use Rattle.rec_format.specs.declared.recording.Recording.{Recording}
-use Rattle.replay.specs.Recorded.{recorded_count}
+use Rattle.rec_format.specs.Recorded.{end_place, recorded_count}
 use Rattle.epoch_run.specs.Records.{Tracers}
-use Rattle.epoch_run.specs.Epochs.{end_place, epoch_break, epoch_records}
+use Rattle.epoch_run.specs.Epochs.{epoch_break, epoch_records, value_of, epoch_value}
+use Rattle.epoch_run.specs.Segments.{StopsAt}
 use Rattle.epoch_run.specs.Opened.{IsOpened}
 use Rattle.epoch_run.proofs.Counts.{counts_rise}
 use Rattle.epoch_run.proofs.OneRun.{breaks_join, records_join}
@@ -74,6 +78,12 @@ module _ (rec : Recording) (opened : State) (tracers : Tracers) (a j : ℕ) (lef
       breaks_join rec opened a (j + 1) b is opens (record { below = omega arith; above = omega arith; within = within })
       ∙ ap (λ first. option_or first (epoch_break rec opened (j + 1) b)) there)
       (cases_eq (j + 1) b)
+
+  -- and so is a refusal of a segment one of the epoch
+  pub stops_there : (b : ℕ) (stop : Refused Break) → j < b → b ≤ end_place rec → StopsAt stop (epoch_break rec opened j (j + 1)) → Fails stop (epoch_value rec opened tracers a b)
+  stops_there b refused.Memory below within stops = tt
+  stops_there b (refused.Fault broken) below within stops =
+      ap (value_of (epoch_records rec opened tracers a b)) (breaks_there b broken below within (sym stops))
 
 -- ---- steps
 

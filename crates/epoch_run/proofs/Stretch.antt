@@ -1,16 +1,22 @@
 -- A segment, one instruction after the other.
 use Rattle.std.proofs.Common.{◌≡◌, ℕ, suc, ◌+◌, ◌-◌, ◌<◌, ◌≤◌, List, ◌++◌, take, drop, Option, Some, None, refl, sym, ap, subst, ◌∙◌, append_assoc, arith}
+use Rattle.sl_base.specs.declared.refused.Refused.{Refused}
+use Rattle.sl_base.specs.declared.refused.Refused.TheVariants as refused
 use Rattle.sl_model.specs.Pages.{Pages}
 use Rattle.sl_model.specs.State.{State}
 use Rattle.call_log.specs.declared.breaks.Break.{Break}
 use Rattle.call_log.specs.declared.breaks.BreakKind.{BreakKind}
 use Rattle.rec_format.specs.declared.recording.Recording.{Recording}
 use Rattle.tracer_lang.specs.declared.record.Record.{Record}
+use Rattle.page_frames.specs.MarkedPages.{MarkedPages}
+use Rattle.rv_machine.specs.declared.machine.Machine.{Machine}
+use Rattle.rv_machine.specs.Machine.{state_of}
 use Rattle.replay.specs.Run.{onward, Goes, Breaks}
+use Rattle.replay.specs.Advance.{StoppedAt}
 use Rattle.replay.specs.Breaks.{at_count, listed_break, listed_or, break_after}
 use Rattle.epoch_run.specs.Records.{Tracers}
 use Rattle.epoch_run.specs.Epochs.{between, epoch_break_from, epoch_records_from}
-use Rattle.epoch_run.specs.Segments.{IsUnderWay}
+use Rattle.epoch_run.specs.Segments.{IsUnderWay, stopped_at, BrokeOff}
 use Rattle.epoch_run.proofs.Arrived.{run-suc, records-suc}
 
 -- ---- one instruction
@@ -54,11 +60,14 @@ goes_on_at rec tracers first total s t done upto old new next lt goes added way 
     let moved = goes_on rec tracers first total s t (upto - (done + 1)) old new goes (subst (λ (n : ℕ). IsUnderWay rec tracers first total s n old new) one way) in
     subst (λ (r : List Record). IsUnderWay rec tracers first total t (upto - (done + 1)) old r) (sym added) moved
 
-pub breaks_off : (rec : Recording) (tracers : Tracers) (first : State) (total : ℕ) (s : State) (done upto : ℕ) (old new : List Record) (kind : BreakKind) → done < upto → onward rec s ≡ Breaks kind
-    → IsUnderWay rec tracers first total s (upto - done) old new → (opened : Pages) (a b : ℕ) → a + 1 ≡ b → epoch_break_from opened rec a b first total ≡ at_count s (Some kind)
-breaks_off rec tracers first total s done upto old new kind lt breaks way opened a b next =
+pub breaks_off : (rec : Recording) (tracers : Tracers) (first : State) (total : ℕ) (m m' : Machine) (f f' : MarkedPages) (done upto : ℕ) (old new : List Record) (stop : Refused BreakKind) → done < upto → m.count ≡ done
+    → StoppedAt (onward rec (state_of m f.pages)) m f stop m' f' → IsUnderWay rec tracers first total (state_of m f.pages) (upto - done) old new → BrokeOff rec first total (stopped_at done stop)
+breaks_off rec tracers first total m m' f f' done upto old new refused.Memory lt count stops way = tt
+breaks_off rec tracers first total m m' f f' done upto old new (refused.Fault kind) lt count stops way = λ opened a b next.
+    let s : State = state_of m f.pages in
     let one : upto - done ≡ suc (upto - (done + 1)) = omega arith in
-    way.breaks opened a b next ∙ ap (epoch_break_from opened rec a b s) one ∙ break_breaks opened rec a b (upto - (done + 1)) s kind next breaks
+    way.breaks opened a b next ∙ ap (epoch_break_from opened rec a b s) one ∙ break_breaks opened rec a b (upto - (done + 1)) s kind next stops.0
+    ∙ ap (λ n. Some (record { count = n; kind = kind })) count
 
 pub comes_to_end : (rec : Recording) (tracers : Tracers) (first : State) (total : ℕ) (s : State) (done upto : ℕ) (old new : List Record) → upto ≤ done → IsUnderWay rec tracers first total s (upto - done) old new → IsUnderWay rec tracers first total s 0 old new
 comes_to_end rec tracers first total s done upto old new le way =

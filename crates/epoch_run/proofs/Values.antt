@@ -1,28 +1,29 @@
 -- The values of epochs, as what they leave or their break.
 use Rattle.std.specs.List.{flat_map, range_with_len}
-use Rattle.std.proofs.Common.{◌≡◌, ℕ, zero, suc, ◌+◌, ◌<◌, ◌≤◌, List, ◌++◌, Option, Some, None, refl, ap₂, ◌∙◌, arith}
+use Rattle.std.proofs.Common.{◌≡◌, ℕ, zero, suc, ◌+◌, ◌<◌, ◌≤◌, List, ◌++◌, Option, Some, None, Ok, Err, refl, ap₂, ◌∙◌, arith}
 use Rattle.sl_model.specs.State.{State}
 use Rattle.call_log.specs.declared.breaks.Break.{Break}
 use Rattle.tracer_lang.specs.declared.record.Record.{Record}
 use Rattle.rec_format.specs.Rules.{IsRecordingValue}
 use Rattle.rec_format.specs.declared.recording.Recording.{Recording}
+use Rattle.rec_format.specs.Recorded.{end_place}
 use Rattle.epoch_run.specs.Records.{Tracers}
-use Rattle.epoch_run.specs.Epochs.{end_place, Ran, Broke, value_of}
+use Rattle.epoch_run.specs.Epochs.{value_of}
 use Rattle.epoch_run.specs.EpochLaws.{epochs_of, break_of, records_of, NoneBreaks, AllRan, FirstBrokeIsFirst, AllRanAreTheRun}
 use Rattle.epoch_run.specs.Opened.{IsOpened}
 use Rattle.epoch_run.proofs.OneRun.{Are, least_break, breaks_with_run, records_of_run}
 
 -- ---- a value, read back
 
-ran_none : (records left : List Record) (broken : Option Break) → value_of records broken ≡ Ran left → broken ≡ None
+ran_none : (records left : List Record) (broken : Option Break) → value_of records broken ≡ Ok left → broken ≡ None
 ran_none records left None is = refl
 ran_none records left (Some broken) is = absurd cc
 
-ran_left : (records left : List Record) (broken : Option Break) → value_of records broken ≡ Ran left → left ≡ records
+ran_left : (records left : List Record) (broken : Option Break) → value_of records broken ≡ Ok left → left ≡ records
 ran_left records left None is = cc
 ran_left records left (Some broken) is = absurd cc
 
-broke_some : (records : List Record) (broken : Option Break) (it : Break) → value_of records broken ≡ Broke it → broken ≡ Some it
+broke_some : (records : List Record) (broken : Option Break) (it : Break) → value_of records broken ≡ Err it → broken ≡ Some it
 broke_some records None it is = absurd cc
 broke_some records (Some broken) it is = cc
 

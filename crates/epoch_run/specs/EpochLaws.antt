@@ -1,5 +1,5 @@
 -- Why the epochs of a cutting are the one run.
-use Rattle.std.specs.Prelude.{◌≡◌, ℕ, ◌+◌, ◌-◌, ◌<◌, ◌≤◌, ◌↔◌, List, length, Option, Some, None, slice_index, ◌∷◌, ◌++◌}
+use Rattle.std.specs.Prelude.{◌≡◌, ℕ, ◌+◌, ◌-◌, ◌<◌, ◌≤◌, ◌↔◌, List, length, Option, Some, None, Result, Ok, Err, slice_index, ◌∷◌, ◌++◌}
 use Rattle.std.specs.Option.{option_or}
 use Rattle.std.specs.List.{flat_map, range_with_len}
 use Rattle.sl_model.specs.State.{State}
@@ -8,9 +8,9 @@ use Rattle.rec_format.specs.declared.recording.Recording.{Recording}
 use Rattle.tracer_lang.specs.declared.record.Record.{Record}
 use Rattle.replay.specs.Run.{run_from}
 use Rattle.replay.specs.Breaks.{first_break}
-use Rattle.replay.specs.Recorded.{recorded_state, recorded_count}
+use Rattle.rec_format.specs.Recorded.{end_place, recorded_state, recorded_count}
 use Rattle.epoch_run.specs.Records.{Tracers, records}
-use Rattle.epoch_run.specs.Epochs.{end_place, epoch_size, epoch_break, epoch_records, EpochValue, Ran, Broke, epoch_value}
+use Rattle.epoch_run.specs.Epochs.{epoch_size, epoch_break, epoch_records, epoch_value}
 
 -- ---- an epoch from a to c that is cut in two at b
 
@@ -73,17 +73,18 @@ RecordsOfTheRun rec opened tracers places =
 -- ---- the same by the values of the epochs
 
 -- the value of epoch k
-abbrev pub value_at : Recording → State → Tracers → List ℕ → ℕ → EpochValue
-value_at rec opened tracers places k = epoch_value rec opened tracers (slice_index places k) (slice_index places (k + 1))
+abbrev pub value_at : Recording → State → Tracers → List ℕ → ℕ → Result (List Record) Break
+value_at rec opened tracers places k =
+    epoch_value rec opened tracers (slice_index places k) (slice_index places (k + 1))
 
 -- each of the first n epochs ran, and left the records of this list
 abbrev pub AllRan : Recording → State → Tracers → List ℕ → (ℕ → List Record) → ℕ → Type 0
-AllRan rec opened tracers places left n = (k : ℕ) → k < n → value_at rec opened tracers places k ≡ Ran (left k)
+AllRan rec opened tracers places left n = (k : ℕ) → k < n → value_at rec opened tracers places k ≡ Ok (left k)
 
 -- where all before it ran, an epoch that broke has the first break of the run
 abbrev pub FirstBrokeIsFirst : Recording → State → Tracers → List ℕ → Type 0
 FirstBrokeIsFirst rec opened tracers places =
-    (left : ℕ → List Record) (k : ℕ) (broken : Break) → k < epochs_of places → AllRan rec opened tracers places left k → value_at rec opened tracers places k ≡ Broke broken → first_break rec opened ≡ Some broken
+    (left : ℕ → List Record) (k : ℕ) (broken : Break) → k < epochs_of places → AllRan rec opened tracers places left k → value_at rec opened tracers places k ≡ Err broken → first_break rec opened ≡ Some broken
 
 -- where all ran, the run does not break, and what they left in order is what the run leaves
 abbrev pub AllRanAreTheRun : Recording → State → Tracers → List ℕ → Type 0

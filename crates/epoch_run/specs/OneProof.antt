@@ -1,36 +1,72 @@
 -- What the type of a plan keeps: each fact has one proof at most.
-use Rattle.std.specs.Prelude.{ℕ, List, [], ◌∷◌, Option, Some, None}
+use Rattle.std.specs.Prelude.{◌≡◌, ℕ, List, Option, Some, None}
+use Rattle.std.specs.Coded.{Coded, Coded-set, code_by, coded×, coded_ℕ, coded_list, coded_option}
+use Rattle.std.specs.FinMap as map
+use Rattle.std.proofs.Common.{refl}
 use Rattle.std.proofs.Props.{props}
-use mathlib.Core.HLevel.{×_prop, Unit-prop}
-use Rattle.call_log.specs.declared.entry.End.{End}
-use Rattle.call_log.specs.declared.entry.End.TheVariants as ends
+use Rattle.sl_model.specs.declared.run_state.RunState.{RunState}
+use Rattle.sl_model.specs.declared.run_state.RunState.TheVariants.{Running, Exited}
+use Rattle.sl_model.specs.Pages.{Pages}
 use Rattle.sl_model.specs.State.{State}
-use Rattle.rec_format.specs.Rules.{IsAbove, Rise, IsEnd, AreNeeded, IsRecordingValue}
-use Rattle.rec_format.specs.declared.recording.ListedPage.{ListedPage}
-use Rattle.rec_format.specs.declared.recording.Recording.{Recording}
 use Rattle.epoch_run.specs.Opened.{IsOpened}
-
-pub IsAbove-prop : (before : Option ℕ) (n : ℕ) → IsProp (IsAbove before n)
-IsAbove-prop None n = Unit-prop
-IsAbove-prop (Some before) n = Prim.hlevel props
-
-pub Rise-prop : (before : Option ℕ) (ns : List ℕ) → IsProp (Rise before ns)
-Rise-prop before [] = Unit-prop
-Rise-prop before (n ∷ ns) = ×_prop (IsAbove-prop before n) (Rise-prop (Some n) ns)
-
-pub IsEnd-prop : (end : End) → IsProp (IsEnd end)
-IsEnd-prop (ends.Exited code) = Prim.hlevel props
-IsEnd-prop (ends.Trapped trap) = Prim.hlevel props
-IsEnd-prop ends.Stopped = Unit-prop
-
-pub AreNeeded-prop : (earlier pages : List ListedPage) → IsProp (AreNeeded earlier pages)
-AreNeeded-prop earlier [] = Unit-prop
-AreNeeded-prop earlier (page ∷ pages) = ×_prop (Prim.hlevel props) (AreNeeded-prop _ pages)
-
-ruleset value_props = (props, IsAbove-prop, Rise-prop, IsEnd-prop, AreNeeded-prop)
-
-pub IsRecordingValue-prop : (rec : Recording) → IsProp (IsRecordingValue rec)
-IsRecordingValue-prop rec = Prim.hlevel value_props
 
 pub IsOpened-prop : (s : State) → IsProp (IsOpened s)
 IsOpened-prop s = Prim.hlevel props
+
+-- ---- states have one proof that they are equal, since a state is the tuple of its fields
+
+abbrev exit_code : RunState → Option ℕ
+exit_code Running = None
+exit_code (Exited code) = Some code
+
+abbrev status_of : Option ℕ → RunState
+status_of None = Running
+status_of (Some code) = Exited code
+
+status_of-exit_code : (status : RunState) → status_of (exit_code status) ≡ status
+status_of-exit_code Running = refl
+status_of-exit_code (Exited code) = refl
+
+abbrev status_code : Coded RunState
+status_code = code_by (Option ℕ) (coded_option coded_ℕ) exit_code status_of status_of-exit_code
+
+abbrev Pair : Type 0
+Pair = ℕ × ℕ
+
+abbrev pair_code : Coded Pair
+pair_code = coded× coded_ℕ coded_ℕ
+
+abbrev memory_code : Coded (List ℕ × Pages)
+memory_code = coded× (coded_list coded_ℕ) (map.code coded_ℕ (coded_list coded_ℕ))
+
+abbrev Rest : Type 0
+Rest = RunState × (Pair × (Pair × (Pair × ℕ)))
+
+abbrev rest_code : Coded Rest
+rest_code = coded× status_code (coded× pair_code (coded× pair_code (coded× pair_code coded_ℕ)))
+
+abbrev parts_of : State → (List ℕ × Pages) × Rest
+parts_of s = (
+  (s.x, s.pages),
+  (s.status, ((s.pc, s.count), ((s.brk, s.brk_end), ((s.layout.brk_start, s.layout.heap_limit), s.next_call)))),
+)
+
+abbrev state_with : (List ℕ × Pages) × Rest → State
+state_with p =
+    record {
+      pc = p.1.1.0.0;
+      x = p.0.0;
+      pages = p.0.1;
+      brk = p.1.1.1.0.0;
+      brk_end = p.1.1.1.0.1;
+      next_call = p.1.1.1.1.1;
+      status = p.1.0;
+      count = p.1.1.0.1;
+      layout = record { brk_start = p.1.1.1.1.0.0; heap_limit = p.1.1.1.1.0.1 };
+    }
+
+abbrev state_code : Coded State
+state_code = code_by ((List ℕ × Pages) × Rest) (coded× memory_code rest_code) parts_of state_with (λ _. refl)
+
+pub states-set : (s t : State) → IsProp (s ≡ t)
+states-set s t = Coded-set state_code s t

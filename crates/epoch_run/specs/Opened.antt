@@ -3,7 +3,8 @@ use Rattle.std.specs.Prelude.{◌≡◌, ℕ, ◌+◌, ◌%◌, ◌^◌, ◌<◌
 use Rattle.std.specs.FinMap.{get}
 use Rattle.sl_model.specs.declared.run_state.RunState.TheVariants.{Running}
 use Rattle.elf_image.specs.declared.image.Segment.{Segment}
-use Rattle.sl_model.specs.State.{State, register, MEMORY_END}
+use Rattle.sl_model.specs.State.{State, register}
+use Rattle.sl_model.specs.declared.layout.TheConstants.{MEMORY_END}
 
 -- A program before its first instruction: 32 registers, x0 being 0, pages of 4,096 bytes below 2 ^ 32, and a heap of whole
 -- pages, none of them mapped by a call yet.
@@ -11,11 +12,11 @@ pub record IsOpened (s : State) : Type 0 where
   pub registers : length s.x ≡ 32
   pub zero : register s 0 ≡ 0
   pub pages : (number : ℕ) → IfSome (get s.pages number) (λ page. (number < 2 ^ 20) × (length page ≡ 4096))
-  pub start : s.brk_start % 4096 ≡ 0
-  pub limit : s.heap_limit % 4096 ≡ 0
-  pub ordered : s.brk_start ≤ s.heap_limit
-  pub below_end : s.heap_limit ≤ MEMORY_END
-  pub heap : s.brk_end ≡ s.brk_start
+  pub start : s.layout.brk_start % 4096 ≡ 0
+  pub limit : s.layout.heap_limit % 4096 ≡ 0
+  pub ordered : s.layout.brk_start ≤ s.layout.heap_limit
+  pub below_end : s.layout.heap_limit ≤ MEMORY_END
+  pub heap : s.brk_end ≡ s.layout.brk_start
   pub status : s.status ≡ Running
   pub count : s.count ≡ 0
 

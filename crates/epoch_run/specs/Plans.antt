@@ -1,37 +1,55 @@
 -- What the epochs of a plan come to.
-use Rattle.std.specs.Prelude.{ℕ, ◌+◌, List, map, slice_index, slice_index_or, All}
+use Rattle.std.specs.Prelude.{ℕ, ◌+◌, List, map, Result, Ok, Err, slice_index, slice_index_or, All}
 use Rattle.std.specs.List.{range_with_len}
 use Rattle.std.proofs.lemmas.List.Elements.{All-map}
 use Rattle.sl_model.specs.State.{State}
-use Rattle.rec_format.specs.declared.recording.Recording.{Recording}
+use Rattle.call_log.specs.declared.breaks.Break.{Break}
+use Rattle.tracer_lang.specs.declared.record.Record.{Record}
+use Rattle.rv_machine.specs.Machine.{state_of}
+use Rattle.checkpoints.specs.RecordedRun.{opened_of}
 use Rattle.epoch_core.specs.declared.post.PostValue.{PostValue}
+use Rattle.epoch_core.specs.declared.post.PostValue.TheVariants.{Ran, Broke}
 use Rattle.epoch_core.specs.Posts.{IsOwn}
-use Rattle.epoch_run.specs.Records.{Tracers}
-use Rattle.epoch_run.specs.Epochs.{EpochValue, Ran, Broke, epoch_value, epoch_size}
-use Rattle.epoch_run.specs.EpochLaws.{epochs_of}
-use Rattle.epoch_run.specs.Segments.{posted}
+use Rattle.epoch_run.specs.declared.plan.Plan.{Plan}
+use Rattle.epoch_run.specs.declared.plan.Worker.{Worker}
+use Rattle.epoch_run.specs.Records.{Tracers, emit_at}
+use Rattle.epoch_run.specs.Epochs.{epoch_size}
+use Rattle.epoch_run.specs.EpochLaws.{epochs_of, value_at}
 
--- the value of epoch k of a cutting
-unfoldable pub value_at : Recording → State → Tracers → List ℕ → ℕ → PostValue
-value_at rec opened tracers places k = posted (epoch_value rec opened tracers (slice_index places k) (slice_index places (k + 1)))
+-- what the tracers of a plan leave: register a0, at its address
+abbrev pub tracers_of : Plan → Tracers
+tracers_of plan = emit_at plan.address 10
+
+-- the state that a worker's machine and memory are in
+abbrev pub state_in : Worker → State
+state_in worker = state_of worker.m worker.f.pages
+
+-- what epoch k of a plan comes to
+unfoldable pub value_in : Plan → ℕ → Result (List Record) Break
+value_in plan k =
+    value_at plan.checkpoints.rec (opened_of plan.checkpoints) (tracers_of plan) plan.cutting k
 
 -- how many instructions it has
-abbrev pub size_at : Recording → List ℕ → ℕ → ℕ
-size_at rec places k = epoch_size rec (slice_index places k) (slice_index places (k + 1))
+abbrev pub size_in : Plan → ℕ → ℕ
+size_in plan k =
+    epoch_size plan.checkpoints.rec (slice_index plan.cutting k) (slice_index plan.cutting (k + 1))
 
--- the values of all epochs, in order
-abbrev pub values_of : Recording → State → Tracers → List ℕ → List PostValue
-values_of rec opened tracers places = map (value_at rec opened tracers places) (range_with_len 0 (epochs_of places))
+-- what an epoch came to, as it is posted
+abbrev pub posted : Result (List Record) Break → PostValue
+posted (Ok records) = Ran records
+posted (Err broken) = Broke broken
+
+-- the values of all epochs of a plan, in order
+abbrev pub values_of : Plan → List PostValue
+values_of plan = map (λ k. posted (value_in plan k)) (range_with_len 0 (epochs_of plan.cutting))
 
 -- an epoch runs or breaks; it is never skipped
-own : (value : EpochValue) → IsOwn (posted value)
-own (Ran records) = tt
-own (Broke broken) = tt
+own : (value : Result (List Record) Break) → IsOwn (posted value)
+own (Ok records) = tt
+own (Err broken) = tt
 
-own_at : (rec : Recording) (opened : State) (tracers : Tracers) (places : List ℕ) (k : ℕ) → IsOwn (value_at rec opened tracers places k)
-unfolding value_at
-own_at rec opened tracers places k = own (epoch_value rec opened tracers (slice_index places k) (slice_index places (k + 1)))
-
-pub values_are_own : (rec : Recording) (opened : State) (tracers : Tracers) (places : List ℕ) → All IsOwn (values_of rec opened tracers places)
-values_are_own rec opened tracers places =
-    All-map IsOwn (value_at rec opened tracers places) (range_with_len 0 (epochs_of places)) (λ k d h. own_at rec opened tracers places (slice_index_or (range_with_len 0 (epochs_of places)) k d))
+pub values_are_own : (plan : Plan) → All IsOwn (values_of plan)
+values_are_own plan =
+    let numbers : List ℕ = range_with_len 0 (epochs_of plan.cutting) in
+    All-map IsOwn (λ k. posted (value_in plan k)) numbers
+    (λ k d h. own (value_in plan (slice_index_or numbers k d)))

@@ -1,16 +1,32 @@
 //! The epochs of a plan.
 
-ghost use Rattle.std.specs.Prelude.{◌≡◌, ◌+◌, ◌<◌, ◌≤◌, IfOk};
-ghost use Rattle.epoch_run.specs.Records.{emit_at};
+ghost use Rattle.std.specs.Prelude.{◌≡◌, ◌+◌, ◌<◌, ◌≤◌, List, Result, IfOk};
+ghost use Rattle.sl_base.specs.Refusals.{Tells};
+ghost use Rattle.call_log.specs.declared.breaks.Break.{Break as FirstBreak};
+ghost use Rattle.tracer_lang.specs.declared.record.Record.{Record as Left};
 ghost use Rattle.epoch_run.specs.EpochLaws.{epochs_of};
-ghost use Rattle.epoch_run.specs.Plans.{value_at, size_at};
+ghost use Rattle.epoch_run.specs.Plans.{posted, value_in, size_in};
 
 use crate::plan::{Plan, Worker};
 use crate::running::run_between;
-use epoch_core::{Post, Runs};
-use sl_base::{Memory, Steps};
+use call_log::Break;
+use epoch_core::{Post, PostValue, Runs};
+use sl_base::{Memory, Refused, Seq, Steps};
 use std::alloc::Global;
 use std::sync::ledger::Ledger;
+use tracer_lang::Record;
+
+/// What is posted of what an epoch came to.
+fn posted(came: Result<Seq<Record>, Refused<Break>>) -> Result<PostValue, Memory>
+    ensures { (due : Result (List Left) FirstBreak)
+        → Tells came due → IfOk result (λ value. value ≡ posted due) }
+{
+    match came {
+        Ok(records) => Ok(PostValue::Ran { records }),
+        Err(Refused::Fault(broken)) => Ok(PostValue::Broke(broken)),
+        Err(Refused::Memory) => Err(Memory),
+    }
+}
 
 /// Runs epoch `k` of a plan from the recorded state of its first checkpoint, whatever the worker ran before, and gives
 /// its post. It breaks exactly where the epoch does, and is never `Skipped`. The steps that are counted are instructions
@@ -28,44 +44,33 @@ pub fn run_epoch<L: Ledger>(
 ) -> Result<Post, Memory>
     requires { k < epochs_of plan.now.cutting }
     ensures epoch { IfOk result (λ post. post.epoch ≡ k) }
-    ensures value { IfOk result (λ post. post.value ≡ value_at plan.now.rec plan.now.checkpoints.opened (emit_at plan.now.address 10) plan.now.cutting k) }
-    ensures steps { steps.new ≤ steps.old + size_at plan.now.rec plan.now.cutting k }
+    ensures value { IfOk result (λ post. post.value ≡ posted (value_in plan.now k)) }
+    ensures steps { steps.new ≤ steps.old + size_in plan.now k }
 {
     let places = plan.cutting.places();
     let a = places[k as usize];
     let b = places[k as usize + 1];
-    let value = run_between(
-        alloc,
-        &plan.rec,
-        &plan.checkpoints,
-        plan.address,
-        a,
-        b,
-        &mut worker.m,
-        &mut worker.f,
-        steps,
-    )?;
+    let value = posted(run_between(alloc, plan, a, b, worker, steps))?;
     Ok(Post { epoch: k, value })
 }
 
 /// The epochs of a plan, run by one worker in any order.
 #[derive(Drop)]
-pub struct PlanRuns<L: Ledger> {
-    pub plan: Plan,
-    pub worker: Worker,
+pub struct PlanRuns<'a, L: Ledger> {
+    pub plan: &'a Plan,
+    pub worker: &'a mut Worker,
     /// Instructions of the program.
-    pub steps: Steps<L>,
+    pub steps: &'a mut Steps<L>,
 }
 
-impl<L: Ledger> Runs for PlanRuns<L> {
-    ghost use Rattle.epoch_run.specs.Records.{emit_at};
+impl<'a, L: Ledger> Runs for PlanRuns<'a, L> {
     ghost use Rattle.epoch_run.specs.Plans.{values_of, values_are_own};
 
-    ghost values = { λ runs. values_of runs.plan.rec runs.plan.checkpoints.opened (emit_at runs.plan.address 10) runs.plan.cutting };
+    ghost values = { λ runs. values_of runs.plan.now };
 
-    ghost not_skipped = { λ runs. values_are_own runs.plan.rec runs.plan.checkpoints.opened (emit_at runs.plan.address 10) runs.plan.cutting };
+    ghost not_skipped = { λ runs. values_are_own runs.plan.now };
 
     fn run(&mut self, alloc: Global, epoch: u32) -> Result<Post, Memory> {
-        run_epoch(alloc, &self.plan, epoch, &mut self.worker, &mut self.steps)
+        run_epoch(alloc, self.plan, epoch, self.worker, self.steps)
     }
 }

@@ -1,16 +1,12 @@
 //! The one tracer of `trace .. at`, which records register a0 at an address.
 
-ghost use Rattle.std.specs.Prelude.{◌≡◌, ◌≤◌, ◌++◌, OnOk};
-ghost use Rattle.sl_model.specs.Pages.{Pages};
-ghost use Rattle.rv_machine.specs.Machine.{state_of};
-ghost use Rattle.rec_format.specs.Rules.{IsRecordingValue};
-ghost use Rattle.epoch_run.specs.Records.{emit_at, at_end};
+ghost use Rattle.std.specs.Prelude.{◌≡◌, ◌++◌, OnOk};
+ghost use Rattle.epoch_run.specs.Records.{at_end};
 ghost use Rattle.epoch_run.specs.Epochs.{closing_records};
+ghost use Rattle.epoch_run.specs.Plans.{tracers_of, state_in};
 
-use crate::places::end_place;
+use crate::plan::{Plan, Worker};
 use call_log::End;
-use rec_format::Recording;
-use rv_machine::Machine;
 use sl_base::Seq;
 use std::alloc::{AllocError, Global};
 use tracer_lang::{Record, TracerEnd};
@@ -18,16 +14,18 @@ use tracer_lang::{Record, TracerEnd};
 /// Register a0.
 const A0: usize = 10;
 
-/// Records register a0 where pc is at the address.
+/// Records what the tracers of a plan leave: register a0, where pc is at the address.
 pub fn fire(
     alloc: Global,
-    address: u32,
-    m: &Machine,
+    plan: &Plan,
+    worker: &Worker,
     records: &mut Vec<Record>,
 ) -> Result<(), AllocError>
-    ensures { (pages : Pages) → OnOk result (records.new.items ≡ records.old.items ++ emit_at address 10 (state_of m.now pages)) }
+    ensures { let left = tracers_of plan.now (state_in worker.now) in
+        OnOk result (records.new.items ≡ records.old.items ++ left) }
 {
-    if m.pc != address {
+    let m = &worker.m;
+    if m.pc != plan.address {
         return Ok(());
     }
     let mut words = Seq::new(alloc);
@@ -42,36 +40,37 @@ pub fn fire(
     Ok(())
 }
 
-/// Records what the tracer leaves at the recorded end, where it fires only before an instruction that traps.
+/// Records what the tracers leave at the recorded end, where they fire only before an instruction that traps.
 fn fire_at_end(
     alloc: Global,
-    end: &End,
-    address: u32,
-    m: &Machine,
+    plan: &Plan,
+    worker: &Worker,
     records: &mut Vec<Record>,
 ) -> Result<(), AllocError>
-    ensures { (pages : Pages) → OnOk result (records.new.items ≡ records.old.items ++ at_end (emit_at address 10) end.now (state_of m.now pages)) }
+    ensures { let end = plan.now.checkpoints.rec.end in
+        let left = at_end (tracers_of plan.now) end (state_in worker.now) in
+        OnOk result (records.new.items ≡ records.old.items ++ left) }
 {
-    match end {
-        End::Trapped(_) => fire(alloc, address, m, records),
+    match plan.checkpoints.rec.end {
+        End::Trapped(_) => fire(alloc, plan, worker, records),
         End::Exited(_) | End::Stopped => Ok(()),
     }
 }
 
-/// Records what the tracer leaves at checkpoint `k` in the epoch that ends there: nothing but at the recorded end.
+/// Records what the tracers leave at checkpoint `k` in the epoch that ends there: nothing but at the recorded end.
 pub fn fire_at_checkpoint(
     alloc: Global,
-    rec: &Recording,
-    address: u32,
+    plan: &Plan,
     k: u32,
-    m: &Machine,
+    worker: &Worker,
     records: &mut Vec<Record>,
 ) -> Result<(), AllocError>
-    requires value { IsRecordingValue rec.now }
-    ensures { (pages : Pages) → OnOk result (records.new.items ≡ records.old.items ++ closing_records rec.now (emit_at address 10) k (state_of m.now pages)) }
+    ensures { let rec = plan.now.checkpoints.rec in
+        let left = closing_records rec (tracers_of plan.now) k (state_in worker.now) in
+        OnOk result (records.new.items ≡ records.old.items ++ left) }
 {
-    if k == end_place(rec) {
-        return fire_at_end(alloc, &rec.end, address, m, records);
+    if k == plan.checkpoints.segments() {
+        return fire_at_end(alloc, plan, worker, records);
     }
     Ok(())
 }

@@ -11,10 +11,10 @@ ghost use Rattle.elf_image.specs.Flat.{flat_image};
 ghost use Rattle.replay.specs.Opening.{opening};
 ghost use Rattle.replay.specs.Run.{Goes, onward};
 ghost use Rattle.replay.specs.Breaks.{first_break};
-ghost use Rattle.replay.specs.Recorded.{recorded_state};
+ghost use Rattle.rec_format.specs.Recorded.{end_place, recorded_state};
 ghost use Rattle.epoch_cut.specs.Places.{IsCutting};
 ghost use Rattle.epoch_run.specs.Records.{Tracers, records};
-ghost use Rattle.epoch_run.specs.Epochs.{end_place, epoch_break, epoch_records};
+ghost use Rattle.epoch_run.specs.Epochs.{epoch_break, epoch_records};
 ghost use Rattle.epoch_run.specs.Opened.{IsOpened, IsInMemory};
 ghost use Rattle.epoch_run.specs.EpochLaws.{BreaksJoin, RecordsJoin, StatesJoin, FirstBrokeIsFirst, AllRanAreTheRun, StartsOnTheRun, LeastBreakIsFirst, BreaksWithTheRun, RecordsOfTheRun, ComesToTheEnd};
 

@@ -1,39 +1,39 @@
 //! What epochs are run of, and what runs them.
 
-ghost use Rattle.std.specs.Prelude.{◌≡◌, ◌≤◌, [], length, IfOk};
+ghost use Rattle.std.specs.Prelude.{◌≡◌, [], IfOk};
 ghost use Rattle.std.specs.FinMap.{empty};
-ghost use Rattle.rec_format.specs.Rules.{IsRecordingValue};
-ghost use Rattle.checkpoints.specs.RecordedRun.{IsOf};
+ghost use Rattle.rec_format.specs.Recorded.{end_place};
+ghost use Rattle.replay.specs.Opening.{opening};
+ghost use Rattle.checkpoints.specs.RecordedRun.{opened_of};
 ghost use Rattle.epoch_cut.specs.Places.{IsCutting};
-ghost use Rattle.epoch_run.specs.Epochs.{end_place};
 ghost use Rattle.epoch_run.specs.EpochLaws.{epochs_of};
 ghost use Rattle.epoch_run.specs.Opened.{IsOpened};
-ghost use Rattle.epoch_run.specs.OneProof.{IsRecordingValue-prop, IsOpened-prop};
+ghost use Rattle.epoch_run.specs.OneProof.{states-set, IsOpened-prop};
 
 use checkpoints::Checkpoints;
+use elf_image::Image;
 use epoch_cut::Cutting;
 use page_frames::Frames;
-use rec_format::Recording;
 use rv_machine::Machine;
 use sl_base::Memory;
 use sl_model::{Layout, RunState};
 use std::alloc::Global;
 
-/// A recording without recorded calls with its checkpoints, cut into epochs.
+/// A recording without recorded calls, cut into epochs, with the tracer that runs on them.
 #[derive(Drop)]
 pub struct Plan {
-    pub rec: Recording,
-    /// The checkpoints of the recording and its opening state.
+    /// The image that the program is loaded from.
+    pub image: Image,
+    /// The recording with its checkpoints, and the opening state of the image with the recorded arguments.
     pub checkpoints: Checkpoints,
-    /// The places where its segments are cut.
+    /// The places where the intervals between checkpoints are cut.
     pub cutting: Cutting,
     /// Where the tracer records register a0.
     pub address: u32,
-    ghost is_value: { IsRecordingValue rec } by { IsRecordingValue-prop rec },
-    ghost no_calls: { rec.calls ≡ [] },
-    ghost are_of: { IsOf rec checkpoints },
-    ghost opens: { IsOpened checkpoints.opened } by { IsOpened-prop checkpoints.opened },
-    ghost cuts: { IsCutting (end_place rec) cutting },
+    ghost no_calls: { checkpoints.rec.calls ≡ [] },
+    ghost loaded: { opened_of checkpoints ≡ opening image checkpoints.rec.args } by { states-set (opened_of checkpoints) (opening image checkpoints.rec.args) },
+    ghost opens: { IsOpened (opened_of checkpoints) } by { IsOpened-prop (opened_of checkpoints) },
+    ghost cuts: { IsCutting (end_place checkpoints.rec) cutting },
 }
 
 impl Plan {

@@ -1,69 +1,45 @@
 //! One epoch of a recorded run.
 
-ghost use Rattle.std.specs.Prelude.{◌≡◌, ◌+◌, ◌<◌, ◌≤◌, [], IfOk};
-ghost use Rattle.rec_format.specs.Rules.{IsRecordingValue};
-ghost use Rattle.checkpoints.specs.RecordedRun.{IsOf};
-ghost use Rattle.epoch_run.specs.Records.{emit_at};
-ghost use Rattle.epoch_run.specs.Epochs.{end_place, epoch_size, epoch_value};
-ghost use Rattle.epoch_run.specs.Opened.{IsOpened};
-ghost use Rattle.epoch_run.specs.Segments.{posted};
+ghost use Rattle.std.specs.Prelude.{◌≡◌, ◌+◌, ◌<◌, ◌≤◌};
+ghost use Rattle.sl_base.specs.Refusals.{Tells};
+ghost use Rattle.rec_format.specs.Recorded.{end_place};
+ghost use Rattle.checkpoints.specs.RecordedRun.{opened_of};
+ghost use Rattle.epoch_run.specs.Epochs.{epoch_size, epoch_value};
+ghost use Rattle.epoch_run.specs.Plans.{tracers_of};
 
+use crate::plan::{Plan, Worker};
 use crate::segment::run_segment;
-use checkpoints::Checkpoints;
-use epoch_core::PostValue;
-use page_frames::Frames;
-use rec_format::Recording;
-use rv_machine::Machine;
-use sl_base::{Memory, Seq, Steps};
+use call_log::Break;
+use sl_base::{Refused, Seq, Steps};
 use std::alloc::Global;
 use std::sync::ledger::Ledger;
+use tracer_lang::Record;
 
 /// Replays the epoch from checkpoint `a` to checkpoint `b`, from the state that `a` records, also where no run ever had
-/// that state. What machine and memory are before does not matter.
-///
-/// It never gives `Skipped`. The steps that are counted are instructions of the program.
+/// that state, and gives the records that are left on it. What the worker ran before does not matter. The steps that
+/// are counted are instructions of the program.
 ///
 /// # Errors
 ///
-/// Want of memory.
+/// The epoch's first break, or want of memory.
 pub fn run_between<L: Ledger>(
     alloc: Global,
-    rec: &Recording,
-    checkpoints: &Checkpoints,
-    address: u32,
+    plan: &Plan,
     a: u32,
     b: u32,
-    m: &mut Machine,
-    f: &mut Frames,
+    worker: &mut Worker,
     steps: &mut Steps<L>,
-) -> Result<PostValue, Memory>
-    requires value { IsRecordingValue rec.now }
-    requires calls { rec.now.calls ≡ [] }
-    requires of { IsOf rec.now checkpoints.now }
-    requires opened { IsOpened checkpoints.now.opened }
+) -> Result<Seq<Record>, Refused<Break>>
     requires below { a < b }
-    requires within { b ≤ end_place rec.now }
-    ensures value { IfOk result (λ value. value ≡ posted (epoch_value rec.now checkpoints.now.opened (emit_at address 10) a b)) }
-    ensures steps { steps.new ≤ steps.old + epoch_size rec.now a b }
+    requires within { b ≤ end_place plan.now.checkpoints.rec }
+    ensures value { let opened = opened_of plan.now.checkpoints in
+        Tells result (epoch_value plan.now.checkpoints.rec opened (tracers_of plan.now) a b) }
+    ensures steps { steps.new ≤ steps.old + epoch_size plan.now.checkpoints.rec a b }
 {
-    checkpoints.state_at(a, m, f)?;
+    plan.checkpoints.state_at(a, &mut worker.m, &mut worker.f)?;
     let mut records = Vec::new(alloc);
     for j in a..b {
-        if let Some(broken) = run_segment(
-            alloc,
-            rec,
-            checkpoints,
-            address,
-            j,
-            m,
-            f,
-            &mut records,
-            steps,
-        )? {
-            return Ok(PostValue::Broke(broken));
-        }
+        run_segment(alloc, plan, j, worker, &mut records, steps)?;
     }
-    Ok(PostValue::Ran {
-        records: Seq::from_vec(records),
-    })
+    Ok(Seq::from_vec(records))
 }

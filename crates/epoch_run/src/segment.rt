@@ -1,90 +1,98 @@
-//! One segment of a recorded run, from a checkpoint to the next one.
+//! One interval of a recorded run, from a checkpoint to the next one.
 
-ghost use Rattle.std.specs.Prelude.{◌≡◌, ◌+◌, ◌-◌, ◌<◌, ◌≤◌, ◌^◌, ◌++◌, [], None, IfOk};
-ghost use Rattle.rv_machine.specs.Machine.{state_of};
-ghost use Rattle.rec_format.specs.Rules.{IsRecordingValue};
-ghost use Rattle.checkpoints.specs.RecordedRun.{IsOf};
-ghost use Rattle.replay.specs.Recorded.{recorded_state};
-ghost use Rattle.epoch_run.specs.Records.{emit_at};
-ghost use Rattle.epoch_run.specs.Epochs.{end_place, epoch_size, epoch_break, epoch_records};
-ghost use Rattle.epoch_run.specs.Opened.{IsOpened};
-ghost use Rattle.epoch_run.specs.Segments.{CameTo};
+ghost use Rattle.std.specs.Prelude.{◌≡◌, ◌+◌, ◌-◌, ◌<◌, ◌≤◌, ◌^◌, ◌++◌, OnOk};
+ghost use Rattle.rec_format.specs.Recorded.{end_place, recorded_state};
+ghost use Rattle.checkpoints.specs.RecordedRun.{opened_of};
+ghost use Rattle.epoch_run.specs.Epochs.{epoch_size, epoch_break, epoch_records};
+ghost use Rattle.epoch_run.specs.Segments.{stopped_at, CameTo, TellsBreak};
+ghost use Rattle.epoch_run.specs.Plans.{tracers_of, state_in};
 
 use crate::comparing::break_at_checkpoint;
 use crate::firing::{fire, fire_at_checkpoint};
 use crate::places::recorded_count;
-use call_log::Break;
-use checkpoints::Checkpoints;
-use page_frames::Frames;
-use rec_format::Recording;
+use crate::plan::{Plan, Worker};
+use call_log::{Break, BreakKind};
 use replay::advance_one;
-use rv_machine::Machine;
-use sl_base::{Memory, Steps};
-use sl_model::Bus;
+use sl_base::{Refused, Steps};
 use std::alloc::Global;
 use std::sync::ledger::Ledger;
 use tracer_lang::Record;
 
-/// Replays up to a count, and records register a0 wherever pc is at the address before an instruction. `Some` is the
-/// break of the instruction that does not go on.
-fn run_to<B: Bus, L: Ledger>(
-    alloc: Global,
-    rec: &Recording,
-    address: u32,
-    upto: u64,
-    m: &mut Machine,
-    bus: &mut B,
-    records: &mut Vec<Record>,
-    steps: &mut Steps<L>,
-) -> Result<Option<Break>, Memory>
-    requires calls { rec.now.calls ≡ [] }
-    requires from { m.old.count ≤ upto }
-    requires few { upto ≤ 2 ^ 40 }
-    ensures came { IfOk result (λ broken. CameTo rec.now (emit_at address 10) (state_of m.old (B.pages bus.old)) (upto - m.old.count) (state_of m.new (B.pages bus.new)) records.old.items records.new.items broken) }
-    ensures count { IfOk result (λ broken. broken ≡ None → m.new.count ≡ upto) }
-    ensures steps { steps.new + m.old.count ≤ steps.old + upto }
+/// Why an instruction was not done, with the count at which it stands.
+fn stopped_at(count: u64, stop: Refused<BreakKind>) -> Refused<Break>
+    ensures { result ≡ stopped_at count stop }
 {
-    for done in m.count..upto {
-        fire(alloc, address, m, records)?;
-        if let Some(kind) = advance_one(rec, m, bus, steps) {
-            return Ok(Some(Break { count: done, kind }));
-        }
+    match stop {
+        Refused::Fault(kind) => Refused::Fault(Break { count, kind }),
+        Refused::Memory => Refused::Memory,
     }
-    Ok(None)
 }
 
-/// Replays the segment from checkpoint `j` to the next one, from the state that `j` records. `Some` is its break, and
-/// machine and memory are then given up.
-pub fn run_segment<L: Ledger>(
+/// Replays up to a count, and records what the tracers leave before each instruction.
+///
+/// # Errors
+///
+/// The break of the instruction that does not go on, or want of memory.
+fn run_to<L: Ledger>(
     alloc: Global,
-    rec: &Recording,
-    checkpoints: &Checkpoints,
-    address: u32,
-    j: u32,
-    m: &mut Machine,
-    f: &mut Frames,
+    plan: &Plan,
+    upto: u64,
+    worker: &mut Worker,
     records: &mut Vec<Record>,
     steps: &mut Steps<L>,
-) -> Result<Option<Break>, Memory>
-    requires value { IsRecordingValue rec.now }
-    requires calls { rec.now.calls ≡ [] }
-    requires of { IsOf rec.now checkpoints.now }
-    requires opened { IsOpened checkpoints.now.opened }
-    requires within { j < end_place rec.now }
-    requires at { state_of m.old f.old.pages ≡ recorded_state rec.now checkpoints.now.opened j }
-    ensures first { IfOk result (λ broken. broken ≡ epoch_break rec.now checkpoints.now.opened j (j + 1)) }
-    ensures records { IfOk result (λ broken. broken ≡ None → records.new.items ≡ records.old.items ++ epoch_records rec.now checkpoints.now.opened (emit_at address 10) j (j + 1)) }
-    ensures state { IfOk result (λ broken. broken ≡ None → j + 1 < end_place rec.now → state_of m.new f.new.pages ≡ recorded_state rec.now checkpoints.now.opened (j + 1)) }
-    ensures steps { steps.new ≤ steps.old + epoch_size rec.now j (j + 1) }
+) -> Result<(), Refused<Break>>
+    requires from { worker.old.m.count ≤ upto }
+    requires few { upto ≤ 2 ^ 40 }
+    ensures came { let rec = plan.now.checkpoints.rec in
+        let left = upto - worker.old.m.count in
+        CameTo rec (tracers_of plan.now) (state_in worker.old) left (state_in worker.new)
+        records.old.items records.new.items result }
+    ensures count { OnOk result (worker.new.m.count ≡ upto) }
+    ensures steps { steps.new + worker.old.m.count ≤ steps.old + upto }
+{
+    for done in worker.m.count..upto {
+        fire(alloc, plan, worker, records)?;
+        let rec = &plan.checkpoints.rec;
+        if let Err(stop) = advance_one(rec, &mut worker.m, &mut worker.f, steps) {
+            return Err(stopped_at(done, stop));
+        }
+    }
+    Ok(())
+}
+
+/// Replays the interval from checkpoint `j` to the next one, from the state that `j` records.
+///
+/// # Errors
+///
+/// Its break, or want of memory. The worker's machine and memory are then given up.
+pub fn run_segment<L: Ledger>(
+    alloc: Global,
+    plan: &Plan,
+    j: u32,
+    worker: &mut Worker,
+    records: &mut Vec<Record>,
+    steps: &mut Steps<L>,
+) -> Result<(), Refused<Break>>
+    requires within { j < end_place plan.now.checkpoints.rec }
+    requires at { let opened = opened_of plan.now.checkpoints in
+        state_in worker.old ≡ recorded_state plan.now.checkpoints.rec opened j }
+    ensures first { let opened = opened_of plan.now.checkpoints in
+        TellsBreak result (epoch_break plan.now.checkpoints.rec opened j (j + 1)) }
+    ensures records { let rec = plan.now.checkpoints.rec in
+        let opened = opened_of plan.now.checkpoints in
+        let left = epoch_records rec opened (tracers_of plan.now) j (j + 1) in
+        OnOk result (records.new.items ≡ records.old.items ++ left) }
+    ensures state { let rec = plan.now.checkpoints.rec in
+        let next = recorded_state rec (opened_of plan.now.checkpoints) (j + 1) in
+        OnOk result (j + 1 < end_place rec → state_in worker.new ≡ next) }
+    ensures steps { steps.new ≤ steps.old + epoch_size plan.now.checkpoints.rec j (j + 1) }
 {
     let next = j + 1;
-    let upto = recorded_count(rec, next);
-    if let Some(broken) = run_to(alloc, rec, address, upto, m, f, records, steps)? {
-        return Ok(Some(broken));
+    let upto = recorded_count(plan, next);
+    run_to(alloc, plan, upto, worker, records, steps)?;
+    if let Some(broken) = break_at_checkpoint(plan, next, worker) {
+        return Err(Refused::Fault(broken));
     }
-    if let Some(broken) = break_at_checkpoint(rec, checkpoints, next, m, f) {
-        return Ok(Some(broken));
-    }
-    fire_at_checkpoint(alloc, rec, address, next, m, records)?;
-    Ok(None)
+    fire_at_checkpoint(alloc, plan, next, worker, records)?;
+    Ok(())
 }

@@ -5,7 +5,9 @@ pub mod Fronts
 pub mod Items
 pub mod ItemLaws
 pub mod LastListing
+pub mod Listed
 pub mod Lengths
 pub mod RecordingLaws
 pub mod RisingPages
+pub mod Same
 pub mod Sums

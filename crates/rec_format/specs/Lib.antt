@@ -5,3 +5,6 @@ pub mod Spelling
 pub mod Reading
 pub mod Writing
 pub mod Sure
+pub mod Recorded
+pub mod Compared
+pub mod OneProof

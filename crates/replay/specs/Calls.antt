@@ -1,6 +1,5 @@
 -- System calls in a replay: what a program asks, and the state after an answer.
 use Rattle.std.specs.Prelude.{ℕ, ◌+◌, ◌-◌, ◌/◌, ◌==◌, ◌&&◌, ◌||◌, Bool, List, [], ◌∷◌, min, max, map, Option, Some, None, is_some, unwrap_or, slice_index, nat_le, if◌then◌else◌}
-use Rattle.std.specs.Option.{option_or}
 use Rattle.sl_base.specs.declared.call.Call.{Call}
 use Rattle.sl_base.specs.World.{read_number, write_number, getrandom_number, error_result}
 use Rattle.sl_model.specs.declared.run_state.RunState.TheVariants.{Exited}
@@ -9,7 +8,8 @@ use Rattle.sl_model.specs.State.{State, register}
 use Rattle.sl_model.specs.Step.{gone_to, after, put_register}
 use Rattle.call_log.specs.declared.ask.Ask.{Ask}
 use Rattle.call_log.specs.declared.entry.CallEntry.{CallEntry}
-use Rattle.replay.specs.Opening.{map_pages, round_up}
+use Rattle.replay.specs.Opening.{round_up}
+use Rattle.sl_model.specs.Mapping.{map_pages}
 
 -- ---- the call at an ECALL
 
@@ -47,7 +47,8 @@ room call = min (if call.number == getrandom_number then arg call 1 else arg cal
 
 -- a break that a program may set
 abbrev pub is_break : State → ℕ → Bool
-is_break s address = nat_le s.brk_start address && nat_le address s.heap_limit
+is_break s address =
+    nat_le s.layout.brk_start address && nat_le address s.layout.heap_limit
 
 -- what the call answers
 abbrev pub brk_answer : State → ℕ → ℕ

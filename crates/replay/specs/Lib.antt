@@ -2,5 +2,4 @@ pub mod Opening
 pub mod Calls
 pub mod Run
 pub mod Breaks
-pub mod Recorded
 pub mod Advance

@@ -1,27 +1,17 @@
 -- The opening state: a program as it is loaded, with its stack.
-use Rattle.std.specs.Prelude.{ℕ, zero, suc, ◌+◌, ◌-◌, ◌*◌, ◌/◌, ◌==◌, List, [], ◌∷◌, ◌++◌, length, min, max, replicate, slice_set, nat_le, if◌then◌else◌}
+use Rattle.std.specs.Prelude.{ℕ, ◌+◌, ◌-◌, ◌*◌, ◌/◌, ◌==◌, List, [], ◌∷◌, ◌++◌, length, min, max, replicate, slice_set, nat_le, if◌then◌else◌}
 use Rattle.std.specs.List.{flat_map}
-use Rattle.std.specs.FinMap.{empty, insert, contains_key}
+use Rattle.std.specs.FinMap.{empty}
 use Rattle.sl_model.specs.declared.run_state.RunState.TheVariants.{Running}
 use Rattle.sl_model.specs.Pages.{Pages, set_bytes, low_bytes}
-use Rattle.sl_model.specs.State.{State, MEMORY_END}
+use Rattle.sl_model.specs.Mapping.{map_pages}
+use Rattle.sl_model.specs.State.{State}
+use Rattle.sl_model.specs.declared.layout.TheConstants.{MEMORY_END}
 use Rattle.elf_image.specs.declared.image.Image.{Image}
 use Rattle.elf_image.specs.declared.image.Segment.{Segment}
 use Rattle.elf_image.specs.Flat.{FIRST_STACK_PAGE, STACK_PAGES, page_count}
 
 -- ---- memory
-
-abbrev pub zero_page : List ℕ
-zero_page = replicate 4096 0
-
--- a page of zeros, where none is mapped yet
-abbrev pub map_page : Pages → ℕ → Pages
-map_page pages page = if contains_key pages page then pages else insert pages page zero_page
-
--- the same for so many pages from one on
-unfoldable pub map_pages : Pages → ℕ → ℕ → Pages
-map_pages pages first zero = pages
-map_pages pages first (suc count) = map_pages (map_page pages first) (first + 1) count
 
 -- the pages that meet a segment
 abbrev pub map_segment : Pages → Segment → Pages
@@ -113,6 +103,5 @@ opening image args =
       next_call = 0;
       status = Running;
       count = 0;
-      brk_start = heap_start image;
-      heap_limit = heap_limit (heap_start image);
+      layout = record { brk_start = heap_start image; heap_limit = heap_limit (heap_start image) };
     }

@@ -1,18 +1,19 @@
 //! One instruction of a replay of a recording without recorded calls.
 
-ghost use Rattle.std.specs.Prelude.{◌≡◌, ◌+◌, ◌<◌, ◌≤◌, ◌^◌, None, [], IfSome};
+ghost use Rattle.std.specs.Prelude.{◌≡◌, ◌+◌, ◌<◌, ◌^◌, [], OnOk, true};
 ghost use Rattle.sl_model.specs.Marks.{MarksGoOn};
 ghost use Rattle.sl_model.specs.Pages.{Pages};
 ghost use Rattle.rv_machine.specs.Machine.{state_of};
 ghost use Rattle.replay.specs.Calls.{call_of, is_exit, exited};
 ghost use Rattle.replay.specs.Run.{onward};
-ghost use Rattle.replay.specs.Advance.{CameOf};
+ghost use Rattle.replay.specs.Advance.{CameOf, CountsOne};
 
 use call_log::BreakKind;
+use page_frames::Frames;
 use rec_format::Recording;
 use rv_machine::{Machine, Outcome, step};
-use sl_base::Steps;
-use sl_model::{Bus, RunState};
+use sl_base::{Refused, Steps};
+use sl_model::RunState;
 use std::sync::ledger::Ledger;
 
 /// The number of the call that exits.
@@ -49,56 +50,56 @@ fn early_end(rec: &Recording) -> BreakKind
 }
 
 /// Does the next instruction of a program that runs.
-fn run_one<B: Bus, L: Ledger>(
+fn run_one<L: Ledger>(
     rec: &Recording,
     m: &mut Machine,
-    bus: &mut B,
+    f: &mut Frames,
     steps: &mut Steps<L>,
-) -> Option<BreakKind>
+) -> Result<(), Refused<BreakKind>>
     requires calls { rec.now.calls ≡ [] }
     requires running { m.old.status ≡ RunState.Running }
     requires count { m.old.count < 2 ^ 62 }
-    ensures onward { CameOf (onward rec.now (state_of m.old (B.pages bus.old))) m.old (B.pages bus.old) result m.new (B.pages bus.new) }
-    ensures count { result ≡ None → m.new.count ≡ m.old.count + 1 }
-    ensures marking { B.is_marking bus.new ≡ B.is_marking bus.old }
-    ensures marks { MarksGoOn (B.is_marking bus.old) (B.pages bus.old) (B.marked bus.old) (B.pages bus.new) (B.marked bus.new) }
-    ensures kept { IfSome result (λ kind. B.marked bus.new ≡ B.marked bus.old) }
-    ensures counted { steps.new ≤ steps.old + 1 }
-    ensures uncounted { IfSome result (λ kind. steps.new ≡ steps.old) }
+    ensures onward { let next = onward rec.now (state_of m.old f.old.pages) in
+        CameOf next m.old f.old result m.new f.new }
+    ensures count { OnOk result (m.new.count ≡ m.old.count + 1) }
+    ensures marks { MarksGoOn true f.old.pages f.old.dirty f.new.pages f.new.dirty }
+    ensures counted { CountsOne result steps.old steps.new }
 {
-    match step(m, bus, steps) {
-        Outcome::Stepped => None,
-        Outcome::Trap(_) => Some(early_end(rec)),
+    match step(m, f, steps) {
+        Outcome::Stepped => Ok(()),
+        Outcome::Trap(_) => Err(Refused::Fault(early_end(rec))),
         Outcome::Call => {
             if !is_exit(m) {
-                return Some(BreakKind::NoCall { index: m.next_call });
+                return Err(Refused::Fault(BreakKind::NoCall { index: m.next_call }));
             }
             exit(m);
-            None
+            Ok(())
         }
     }
 }
 
-/// Does the next instruction of a replay of a recording without recorded calls, below its end. `Some` tells why it
-/// breaks there: nothing has changed then, and no step was counted.
-pub fn advance_one<B: Bus, L: Ledger>(
+/// Does the next instruction of a replay of a recording without recorded calls, below its end.
+///
+/// # Errors
+///
+/// Why the replay diverges there: nothing has changed then, and no step was counted. Or want of memory, after which
+/// machine and memory are given up.
+pub fn advance_one<L: Ledger>(
     rec: &Recording,
     m: &mut Machine,
-    bus: &mut B,
+    f: &mut Frames,
     steps: &mut Steps<L>,
-) -> Option<BreakKind>
+) -> Result<(), Refused<BreakKind>>
     requires calls { rec.now.calls ≡ [] }
     requires count { m.old.count < 2 ^ 62 }
-    ensures onward { CameOf (onward rec.now (state_of m.old (B.pages bus.old))) m.old (B.pages bus.old) result m.new (B.pages bus.new) }
-    ensures count { result ≡ None → m.new.count ≡ m.old.count + 1 }
-    ensures marking { B.is_marking bus.new ≡ B.is_marking bus.old }
-    ensures marks { MarksGoOn (B.is_marking bus.old) (B.pages bus.old) (B.marked bus.old) (B.pages bus.new) (B.marked bus.new) }
-    ensures kept { IfSome result (λ kind. B.marked bus.new ≡ B.marked bus.old) }
-    ensures counted { steps.new ≤ steps.old + 1 }
-    ensures uncounted { IfSome result (λ kind. steps.new ≡ steps.old) }
+    ensures onward { let next = onward rec.now (state_of m.old f.old.pages) in
+        CameOf next m.old f.old result m.new f.new }
+    ensures count { OnOk result (m.new.count ≡ m.old.count + 1) }
+    ensures marks { MarksGoOn true f.old.pages f.old.dirty f.new.pages f.new.dirty }
+    ensures counted { CountsOne result steps.old steps.new }
 {
     match m.status {
-        RunState::Exited(_) => Some(early_end(rec)),
-        RunState::Running => run_one(rec, m, bus, steps),
+        RunState::Exited(_) => Err(Refused::Fault(early_end(rec))),
+        RunState::Running => run_one(rec, m, f, steps),
     }
 }

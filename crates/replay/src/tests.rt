@@ -7,7 +7,7 @@ use call_log::{BreakKind, End};
 use page_frames::Frames;
 use rec_format::{CheckpointData, Recording};
 use rv_machine::Machine;
-use sl_base::{Memory, Seq, Steps};
+use sl_base::{Memory, Refused, Seq, Steps};
 use sl_model::{Bus, Layout, RunState};
 use std::alloc::Global;
 use std::marker::Brand;
@@ -70,13 +70,13 @@ fn recording_of(alloc: Global, end: End, count: u64) -> Recording
     }
 }
 
-/// The break of a replay up to its end and at the end, on a count of its own.
+/// The divergence of a replay up to its end and at the end, on a count of its own.
 fn break_in<L: Ledger>(
     rec: &Recording,
     m: &mut Machine,
     frames: &mut Frames,
     blank: Blank,
-) -> Option<BreakKind>
+) -> Result<Option<BreakKind>, Memory>
     requires calls { rec.now.calls ≡ [] }
     requires name { blank.name ≡ L.name }
     requires parts { blank.parts ≡ L.parts }
@@ -85,19 +85,22 @@ fn break_in<L: Ledger>(
     let mut steps = Steps::<L>::new(blank);
     for _ in 0..rec.last.count {
         if m.count > 100 {
-            return None;
+            return Ok(None);
         }
-        if let Some(kind) = advance_one(rec, m, frames, &mut steps) {
-            return Some(kind);
+        match advance_one(rec, m, frames, &mut steps) {
+            Ok(()) => {}
+            Err(Refused::Fault(kind)) => return Ok(Some(kind)),
+            Err(Refused::Memory) => return Err(Memory),
         }
     }
-    if m.count > 100 {
-        return None;
-    }
-    end_break(rec, m, frames)
+    Ok(end_break(rec, m, frames))
 }
 
-fn break_of(rec: &Recording, m: &mut Machine, frames: &mut Frames) -> Option<BreakKind>
+fn break_of(
+    rec: &Recording,
+    m: &mut Machine,
+    frames: &mut Frames,
+) -> Result<Option<BreakKind>, Memory>
     requires { rec.now.calls ≡ [] }
 {
     break_in::<Brand>(rec, m, frames, Blank::new(1))
@@ -177,7 +180,7 @@ fn replays(rt: HostRuntime) -> Result<(), Fail> {
         let mut m = machine();
         let mut frames = memory_of(alloc, program)?;
         assert_eq!(rt;
-            break_of(&rec, &mut m, &mut frames),
+            break_of(&rec, &mut m, &mut frames)?,
             kind,
             "{program:?} {end:?}"
         );

@@ -3,6 +3,7 @@ pub mod Faults
 pub mod FileList
 pub mod Files
 pub mod InMemory
+pub mod Refusals
 pub mod Text
 pub mod World
 pub mod Written

@@ -5,3 +5,5 @@ pub mod Memory
 pub mod Steps
 pub mod Counted
 pub mod Fitting
+pub mod Mapping
+pub mod WholePages

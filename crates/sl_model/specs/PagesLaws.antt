@@ -45,7 +45,7 @@ set_byte-in_page pages number offset b page found within =
     rw (quotient, rest, found) refl
 
 -- the last page that was inserted stands
-insert-insert : (pages : Pages) (number : ℕ) (first last : List ℕ) → insert (insert pages number first) number last ≡ insert pages number last
+pub insert-insert : (pages : Pages) (number : ℕ) (first last : List ℕ) → insert (insert pages number first) number last ≡ insert pages number last
 insert-insert pages number first last = same_map nat_cmp_total nat_cmp-IsAntisymmetric _ _ (λ q. grind (arith, gets, common_steps))
 
 pub insert-same : (pages : Pages) (number : ℕ) (page : List ℕ) → get pages number ≡ Some page → insert pages number page ≡ pages

@@ -10,7 +10,8 @@ use Rattle.sl_model.specs.Pages.{Pages, IsPage, ArePages, bytes_at, set_bytes}
 use Rattle.sl_model.specs.PagesLaws.{AreWhole, is_some-bytes_at, is_some-byte_at, is_some-set_bytes}
 use Rattle.page_frames.specs.MarkedPages.{MarkedPages, with_page}
 use Rattle.elf_image.specs.Flat.{FIRST_STACK_PAGE, STACK_PAGES, page_count, one_segment}
-use Rattle.replay.specs.Opening.{zero_page, map_page, map_pages, map_segments, mapped, fill_segments, opening_pages, opening_registers, heap_start, heap_limit, opening}
+use Rattle.replay.specs.Opening.{map_segments, mapped, fill_segments, opening_pages, opening_registers, heap_start, heap_limit, opening}
+use Rattle.sl_model.specs.Mapping.{zero_page, map_page, map_pages}
 use Rattle.elf_image.specs.declared.image.Image.{Image}
 use Rattle.sl_model.specs.State.{State}
 use Rattle.sl_model.specs.declared.run_state.RunState.TheVariants.{Running}

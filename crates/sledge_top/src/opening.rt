@@ -7,7 +7,8 @@ ghost use Rattle.sl_model.specs.Marks.{PROGRAM_PAGES};
 ghost use Rattle.page_frames.specs.MarkedPages.{MOST_PAGES};
 ghost use Rattle.rv_machine.specs.Machine.{state_of};
 ghost use Rattle.elf_image.specs.Flat.{page_count, one_segment};
-ghost use Rattle.replay.specs.Opening.{map_pages, mapped, heap_start, wall, heap_limit, opening_pages, opening};
+ghost use Rattle.replay.specs.Opening.{mapped, heap_start, wall, heap_limit, opening_pages, opening};
+ghost use Rattle.sl_model.specs.Mapping.{map_pages};
 
 use page_frames::Frames;
 use rv_machine::Machine;

@@ -1,7 +1,7 @@
 use Rattle.std.proofs.Common.{◌≡◌, ℕ, ◌-◌, ◌≤◌, None}
 use Rattle.std.specs.Prelude.{nat_lt, if◌then◌else◌}
 use Rattle.std.specs.FinMap.{get}
-use Rattle.sl_model.specs.Marks.{PROGRAM_PAGES}
+use Rattle.sl_model.specs.declared.layout.TheConstants.{PROGRAM_PAGES}
 use Rattle.checkpoints.proofs.copies.copied_frames.Given as goal
 
 -- the pages below a number are copied

@@ -1,8 +1,11 @@
 use Rattle.std.proofs.Common.{◌≡◌, ap, sym, ◌∙◌, List, ℕ, Some}
 use Rattle.std.specs.Prelude.{Option}
 use Rattle.std.specs.FinMap.{get, insert}
-use Rattle.replay.specs.Opening.{zero_page}
-use Rattle.checkpoints.proofs.Filling.{length-page, page_mapped, set_page, pages-with_page, map_page_new, get-inserted, insert-insert}
+use Rattle.sl_model.specs.Mapping.{zero_page}
+use Rattle.checkpoints.proofs.Filling.{pages-with_page}
+use Rattle.sl_model.specs.PagesLaws.{insert-insert}
+use Rattle.sl_model.proofs.Mapping.{map_page_new}
+use Rattle.sl_model.proofs.WholePages.{length-page, page_mapped, set_page, get-inserted}
 use Rattle.checkpoints.proofs.copies.copy_page.Goals as goal
 
 pub copy_in-requires : goal.copy_in-requires

@@ -1,6 +1,6 @@
 use Rattle.std.proofs.Common.{◌∙◌, sym, arith, eq-eqb}
 use Rattle.std.proofs.lemmas.Bool.{ne_eqb}
-use Rattle.checkpoints.proofs.Listings.{last_listing-more}
+use Rattle.rec_format.proofs.Listed.{last_listing-more}
 use Rattle.checkpoints.proofs.listed.last_listing.Goals as goal
 use Rattle.checkpoints.proofs.listed.last_listing.Goals.{then-listing-page, else-listing-page}
 

@@ -1,6 +1,6 @@
 use Rattle.std.proofs.Common.{◌≡◌, ℕ, List, take}
 use Rattle.std.specs.Prelude.{unwrap_or, option_copied}
-use Rattle.replay.specs.Breaks.{last_listing}
+use Rattle.rec_format.specs.Recorded.{last_listing}
 use Rattle.checkpoints.proofs.listed.last_listing.Given as goal
 
 abbrev pub invariant-loop-listing : goal.invariant-loop-listing

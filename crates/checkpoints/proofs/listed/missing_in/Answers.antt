@@ -1,7 +1,7 @@
 use Rattle.std.proofs.Common.{◌≡◌, ℕ, ◌+◌, ap, drop, ◌∙◌, sym, arith, Bool}
 use Rattle.std.specs.Prelude.{is_some, not, if◌then◌else◌, Option, Some}
 use Rattle.checkpoints.specs.Memory.{missing_from, lesser}
-use Rattle.checkpoints.proofs.Listings.{drop_item}
+use Rattle.rec_format.proofs.Listed.{drop_item}
 use Rattle.checkpoints.proofs.Options.{is_some-copied}
 use Rattle.checkpoints.proofs.listed.missing_in.Goals as goal
 use Rattle.checkpoints.proofs.listed.missing_in.Goals.{then-is_none, else-is_none}

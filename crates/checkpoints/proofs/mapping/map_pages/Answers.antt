@@ -1,5 +1,6 @@
 use Rattle.std.proofs.Common.{◌+◌, ap, ◌∙◌, sym, arith}
-use Rattle.checkpoints.proofs.Filling.{pages-with_page, len-map_page, map_pages_step, map_pages_done}
+use Rattle.checkpoints.proofs.Filling.{pages-with_page}
+use Rattle.sl_model.proofs.Mapping.{len-map_page, map_pages_step, map_pages_done}
 use Rattle.checkpoints.proofs.mapping.map_pages.Goals as goal
 
 pub loop-page-preserved : goal.loop-page-preserved

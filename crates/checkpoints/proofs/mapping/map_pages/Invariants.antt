@@ -1,6 +1,6 @@
 use Rattle.std.proofs.Common.{◌≡◌, ◌+◌, ◌-◌, ◌≤◌}
 use Rattle.std.specs.FinMap.{len}
-use Rattle.replay.specs.Opening.{map_pages}
+use Rattle.sl_model.specs.Mapping.{map_pages}
 use Rattle.checkpoints.proofs.mapping.map_pages.Given as goal
 
 abbrev pub invariant-loop-page : goal.invariant-loop-page

@@ -2,7 +2,8 @@ use Rattle.std.proofs.Common.{◌≡◌, ◌*◌, true, ap, sym, ◌∙◌}
 use Rattle.std.specs.Prelude.{is_some, length}
 use Rattle.std.specs.FinMap.{get}
 use Rattle.sl_model.specs.Pages.{set_bytes}
-use Rattle.checkpoints.proofs.Filling.{page_mapped, set_page, put_listed_mapped}
+use Rattle.rec_format.proofs.Listed.{put_listed_mapped}
+use Rattle.sl_model.proofs.WholePages.{page_mapped, set_page}
 use Rattle.checkpoints.proofs.Options.{is_some-copied, some_item}
 use Rattle.checkpoints.proofs.mapping.put_page.Goals as goal
 

@@ -1,7 +1,7 @@
 use Rattle.std.proofs.Common.{◌+◌, ap, drop, ◌∙◌, sym, arith}
 use Rattle.std.proofs.lemmas.List.{drop_all}
-use Rattle.replay.specs.Recorded.{put_all_listed}
-use Rattle.checkpoints.proofs.Listings.{drop_item}
+use Rattle.rec_format.specs.Recorded.{put_all_listed}
+use Rattle.rec_format.proofs.Listed.{drop_item}
 use Rattle.checkpoints.proofs.mapping.put_pages.Goals as goal
 
 pub loop-page-preserved : goal.loop-page-preserved

@@ -1,5 +1,5 @@
 use Rattle.std.proofs.Common.{◌≡◌, drop}
-use Rattle.replay.specs.Recorded.{put_all_listed}
+use Rattle.rec_format.specs.Recorded.{put_all_listed}
 use Rattle.checkpoints.proofs.mapping.put_pages.Given as goal
 
 abbrev pub invariant-loop-page : goal.invariant-loop-page

@@ -1,5 +1,5 @@
 use Rattle.std.proofs.Common.{◌≡◌, ◌+◌, drop}
-use Rattle.replay.specs.Breaks.{bytes_diff}
+use Rattle.rec_format.specs.Compared.{bytes_diff}
 use Rattle.checkpoints.proofs.parts.bytes_break.Given as goal
 
 -- the bytes so far are the recorded ones

@@ -1,5 +1,5 @@
 use Rattle.std.proofs.Common.{◌≡◌, ◌+◌, drop}
-use Rattle.replay.specs.Breaks.{parts_diff}
+use Rattle.rec_format.specs.Compared.{parts_diff}
 use Rattle.checkpoints.proofs.parts.registers_break.Given as goal
 
 -- the registers so far are the recorded ones

@@ -1,5 +1,5 @@
 use Rattle.std.proofs.Common.{le_refl}
-use Rattle.epoch_run.specs.Epochs.{end_place}
+use Rattle.rec_format.specs.Recorded.{end_place}
 use Rattle.epoch_run.proofs.OneRun.{breaks_join, records_join, run_joins}
 use Rattle.epoch_run.proofs.laws.epochs_join.Goals as goal
 

@@ -3,7 +3,7 @@ use Rattle.std.specs.Ordering.{nat_cmp}
 use Rattle.std.specs.FinMap.{len, len-empty}
 use Rattle.std.proofs.lemmas.Result.{on_ok_weaker}
 use Rattle.elf_image.specs.Flat.{page_count}
-use Rattle.replay.specs.Opening.{map_pages}
+use Rattle.sl_model.specs.Mapping.{map_pages}
 use Rattle.sledge_top.proofs.Mapping.{mapped_is}
 use Rattle.sledge_top.proofs.opening.map_memory.Goals as goal
 

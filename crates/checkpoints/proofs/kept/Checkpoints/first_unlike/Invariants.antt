@@ -1,8 +1,6 @@
 use Rattle.std.proofs.Common.{◌≡◌, ℕ, ◌-◌, ◌<◌, ◌≤◌, None}
 use Rattle.std.specs.FinMap.{get}
-use Rattle.sl_model.specs.Marks.{PROGRAM_PAGES}
-use Rattle.rec_format.specs.declared.recording.Recording.{Recording}
-use Rattle.checkpoints.specs.RecordedRun.{IsOf}
+use Rattle.sl_model.specs.declared.layout.TheConstants.{PROGRAM_PAGES}
 use Rattle.checkpoints.specs.Memory.{mapped_diff}
 use Rattle.checkpoints.proofs.kept.Checkpoints.first_unlike.Given as goal
 
@@ -10,7 +8,7 @@ use Rattle.checkpoints.proofs.kept.Checkpoints.first_unlike.Given as goal
 abbrev pub invariant-loop-page : goal.invariant-loop-page
 invariant-loop-page l = record {
   within : l.from ≤ PROGRAM_PAGES;
-  alike : (rec : Recording) → IsOf rec l.self → (q : ℕ) → q < l.from → mapped_diff l.self.opened.pages rec l.k q (get l.f.pages q) ≡ None;
+  alike : (q : ℕ) → q < l.from → mapped_diff l.self.opening.pages l.self.rec l.k q (get l.f.pages q) ≡ None;
 }
 
 abbrev pub decreases-loop-page : goal.decreases-loop-page

@@ -1,6 +1,5 @@
 use Rattle.std.specs.Prelude.{IfOk}
 use Rattle.std.proofs.Common.{◌<◌, Result, Ok, Err, Some, sym, ap, subst, ◌∙◌}
-use Rattle.epoch_run.specs.Records.{emit_at}
 use Rattle.epoch_run.proofs.Planned.{length-values, slice_get-values}
 use Rattle.epoch_run.proofs.epoch.PlanRunsRuns.run.Goals as goal
 
@@ -10,14 +9,10 @@ then_ok P Q (Ok x) follows is = follows x is
 then_ok P Q (Err e) follows is = tt
 
 pub run_epoch-requires : goal.run_epoch-requires
-run_epoch-requires g c =
-    let plan = c.args.self.now.plan in
-    subst (λ n. c.args.epoch < n) (length-values plan.rec plan.checkpoints.opened (emit_at plan.address 10) plan.cutting) c.requires
+run_epoch-requires g c = subst (λ n. c.args.epoch < n) (length-values c.args.self.now.plan.now) c.requires
 
 pub returns-clause-value : goal.returns-clause-value
 returns-clause-value g c =
-    let plan = c.args.self.now.plan in
-    let opened = plan.checkpoints.opened in
-    let tracers = emit_at plan.address 10 in
-    let within = subst (λ n. c.args.epoch < n) (length-values plan.rec opened tracers plan.cutting) c.requires in
-    then_ok _ _ c.run_epoch.result (λ post is. slice_get-values plan.rec opened tracers plan.cutting c.args.epoch within ∙ ap Some (sym is)) c.run_epoch.ensures.value
+    let plan = c.args.self.now.plan.now in
+    let within = subst (λ n. c.args.epoch < n) (length-values plan) c.requires in
+    then_ok _ _ c.run_epoch.result (λ post is. slice_get-values plan c.args.epoch within ∙ ap Some (sym is)) c.run_epoch.ensures.value

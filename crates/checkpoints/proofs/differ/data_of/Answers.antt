@@ -1,6 +1,6 @@
 use Rattle.std.proofs.Common.{◌≡◌, length, drop, ◌∙◌, arith, rules}
 use Rattle.std.proofs.lemmas.List.{take_all, length-drop}
-use Rattle.checkpoints.proofs.kept.data_of.Goals as goal
+use Rattle.checkpoints.proofs.differ.data_of.Goals as goal
 
 pub returns : goal.returns
 returns c = λ pages.

@@ -1,80 +1,15 @@
--- Laws of the listings of pages.
-use Rattle.std.proofs.Common.{◌≡◌, ℕ, zero, suc, ◌+◌, ◌<◌, ◌≤◌, Bool, true, false, List, [], ◌∷◌, ◌++◌, length, take, drop, get_or, Some, None, refl, ap, ◌∙◌, sym, arith, append_assoc, inl, inr, ⊎_elim, ◌⊎◌}
+-- The least listed page that is not mapped.
+use Rattle.std.proofs.Common.{◌≡◌, ℕ, ◌<◌, ◌≤◌, Bool, true, false, List, [], ◌∷◌, ◌++◌, Some, None, refl, ap, ◌∙◌, sym, arith, inl, inr, ⊎_elim, ◌⊎◌}
 use Rattle.std.specs.Prelude.{Option, IfSome, ◌==◌, ◌||◌, if◌then◌else◌, nat_lt}
-use Rattle.std.specs.List.{AllByRecursion, flat_map}
+use Rattle.std.specs.List.{AllByRecursion}
 use Rattle.std.specs.FinMap.{contains_key}
-use Rattle.std.proofs.lemmas.List.{take_more, drop_more, append-nil}
 use Rattle.std.proofs.lemmas.Grind.{common_steps}
 use Rattle.sl_model.specs.Pages.{Pages}
-use Rattle.sl_model.specs.Marks.{PROGRAM_PAGES}
-use Rattle.rec_format.specs.declared.recording.CheckpointData.{CheckpointData}
+use Rattle.sl_model.specs.declared.layout.TheConstants.{PROGRAM_PAGES}
 use Rattle.rec_format.specs.declared.recording.ListedPage.{ListedPage}
-use Rattle.rec_format.specs.Rules.{IsListedPage, IsCheckpoint}
-use Rattle.replay.specs.Breaks.{last_listing, is_listed, bytes_diff}
+use Rattle.rec_format.specs.Rules.{IsListedPage}
+use Rattle.rec_format.specs.Recorded.{is_listed}
 use Rattle.checkpoints.specs.Memory.{lesser, missing_from}
-
--- ---- lists
-
-pub flat_map-append : {X A : Type 0} (f : X → List A) (xs ys : List X) → flat_map f (xs ++ ys) ≡ flat_map f xs ++ flat_map f ys
-flat_map-append f [] ys = refl
-flat_map-append f (x ∷ xs) ys = ap (λ l. f x ++ l) (flat_map-append f xs ys) ∙ sym (append_assoc (f x) (flat_map f xs) (flat_map f ys))
-
--- the items so far and one more, and the items left and one less
-pub take_item : {X : Type 0} (xs : List X) (i : ℕ) (item : X) → i < length xs → item ≡ get_or xs i item → take (i + 1) xs ≡ take i xs ++ item ∷ []
-take_item xs i item lt is = take_more xs i item lt ∙ ap (λ x. take i xs ++ x ∷ []) (sym is)
-
-pub drop_item : {X : Type 0} (xs : List X) (i : ℕ) (item : X) → i < length xs → item ≡ get_or xs i item → drop i xs ≡ item ∷ drop (i + 1) xs
-drop_item xs i item lt is = drop_more xs i item lt ∙ ap (λ x. x ∷ drop (i + 1) xs) (sym is)
-
-pub all_item : {X : Type 0} (P : X → Type 0) (xs : List X) (i : ℕ) (d : X) → AllByRecursion P xs → i < length xs → P (get_or xs i d)
-all_item P [] i d all lt = absurd (omega arith)
-all_item P (x ∷ xs) zero d all lt = all.0
-all_item P (x ∷ xs) (suc i) d all lt = all_item P xs i d all.1 (omega arith)
-
-pub all_take : {X : Type 0} (P : X → Type 0) (k : ℕ) (xs : List X) → AllByRecursion P xs → AllByRecursion P (take k xs)
-all_take P zero xs all = tt
-all_take P (suc k) [] all = tt
-all_take P (suc k) (x ∷ xs) all = (all.0, all_take P k xs all.1)
-
-pub all_append : {X : Type 0} (P : X → Type 0) (xs ys : List X) → AllByRecursion P xs → AllByRecursion P ys → AllByRecursion P (xs ++ ys)
-all_append P [] ys a b = b
-all_append P (x ∷ xs) ys a b = (a.0, all_append P xs ys a.1 b)
-
--- ---- all listings of some checkpoints
-
-pub all_listed : (checkpoints : List CheckpointData) → AllByRecursion IsCheckpoint checkpoints → AllByRecursion IsListedPage (flat_map (λ c. c.pages) checkpoints)
-all_listed [] all = tt
-all_listed (c ∷ cs) all = all_append IsListedPage c.pages (flat_map (λ c. c.pages) cs) all.0.each_page (all_listed cs all.1)
-
--- ---- the last listing
-
-pub last_listing-append : (bytes : List ℕ) (xs ys : List ListedPage) (number : ℕ) → last_listing bytes (xs ++ ys) number ≡ last_listing (last_listing bytes xs number) ys number
-last_listing-append bytes [] ys number = refl
-last_listing-append bytes (x ∷ xs) ys number = last_listing-append (if x.number == number then x.bytes else bytes) xs ys number
-
-pub last_listing-more : (bytes : List ℕ) (listed : List ListedPage) (i number : ℕ) (item : ListedPage) → i < length listed → item ≡ get_or listed i item
-    → last_listing bytes (take (i + 1) listed) number ≡ (if item.number == number then item.bytes else last_listing bytes (take i listed) number)
-last_listing-more bytes listed i number item lt is = ap (λ l. last_listing bytes l number) (take_item listed i item lt is) ∙ last_listing-append bytes (take i listed) (item ∷ []) number
-
--- the lists of the checkpoints before one, and its own
-pub last_listing-before : (bytes : List ℕ) (checkpoints : List CheckpointData) (i number : ℕ) (item : CheckpointData) → i < length checkpoints → item ≡ get_or checkpoints i item
-    → last_listing bytes (flat_map (λ c. c.pages) (take (i + 1) checkpoints)) number ≡ last_listing (last_listing bytes (flat_map (λ c. c.pages) (take i checkpoints)) number) item.pages number
-last_listing-before bytes checkpoints i number item lt is =
-    let lists : List CheckpointData → List ListedPage = flat_map (λ c. c.pages) in
-    ap (λ cs. last_listing bytes (lists cs) number) (take_item checkpoints i item lt is)
-    ∙ ap (λ l. last_listing bytes l number) (flat_map-append (λ c. c.pages) (take i checkpoints) (item ∷ []) ∙ ap (λ l. lists (take i checkpoints) ++ l) (append-nil item.pages))
-    ∙ last_listing-append bytes (lists (take i checkpoints)) item.pages number
-
-chosen_length : (b : Bool) (xs ys : List ℕ) → length xs ≡ 4096 → length ys ≡ 4096 → length (if b then xs else ys) ≡ 4096
-chosen_length true xs ys p q = p
-chosen_length false xs ys p q = q
-
-pub length-last_listing : (bytes : List ℕ) (listed : List ListedPage) (number : ℕ) → length bytes ≡ 4096 → AllByRecursion IsListedPage listed → length (last_listing bytes listed number) ≡ 4096
-length-last_listing bytes [] number whole all = whole
-length-last_listing bytes (x ∷ xs) number whole all =
-    length-last_listing (if x.number == number then x.bytes else bytes) xs number (chosen_length (x.number == number) x.bytes bytes all.0.bytes whole) all.1
-
--- ---- the least listed page that is not mapped
 
 pub missing_from-append : (pages : Pages) (least : Option ℕ) (xs ys : List ListedPage) → missing_from pages least (xs ++ ys) ≡ missing_from pages (missing_from pages least xs) ys
 missing_from-append pages least [] ys = refl
@@ -161,12 +96,3 @@ least_missing pages None [] = (refl, λ q h. absurd cc)
 least_missing pages (Some n) [] = (λ q h lt. absurd cc, omega arith, inl refl)
 least_missing pages known (x ∷ xs) =
     missing_step pages known x xs (contains_key pages x.number) (missing_from pages known (x ∷ xs)) refl (least_missing pages (if contains_key pages x.number then known else Some (lesser known x.number)) xs)
-
--- ---- bytes
-
-itself : (n : ℕ) → (n == n) ≡ true
-itself n = grind (arith, common_steps)
-
-pub bytes_diff-same : (address : ℕ) (bytes : List ℕ) → bytes_diff address bytes bytes ≡ None
-bytes_diff-same address [] = refl
-bytes_diff-same address (b ∷ bs) = rw (itself b) (bytes_diff-same (address + 1) bs)

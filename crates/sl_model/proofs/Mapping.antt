@@ -1,20 +1,17 @@
--- Which pages stand in memory, and that writes keep them whole.
-use Rattle.std.specs.Prelude.{if◌then◌else◌, ◌&&◌, ◌||◌, nat_le, nat_lt, nat_eq, IfSome, is_some, unwrap_or, slice_set}
-use Rattle.std.specs.Option.{option_map}
-use Rattle.std.specs.Ordering.{nat_cmp, eq_by_cmp}
+-- Laws of pages of zeros that are mapped where none stands.
+use Rattle.std.specs.Prelude.{if◌then◌else◌, ◌&&◌, ◌||◌, nat_le, nat_lt, nat_eq, IfSome, is_some}
 use Rattle.std.specs.Cmp.{nat_cmp_total}
-use Rattle.std.specs.FinMap.{get, insert, contains_key, get-insert, gets}
-use Rattle.std.proofs.Common.{◌≡◌, ℕ, zero, suc, ◌+◌, ◌/◌, ◌%◌, Bool, true, false, cond, List, [], ◌∷◌, length, Option, Some, None, ⊎_elim, refl, sym, ap, ◌∙◌, arith, eq-eqb, ne_eqb}
+use Rattle.std.specs.FinMap.{get, insert, len, contains_key, get-insert, len-insert, gets}
+use Rattle.std.proofs.Common.{◌≡◌, ℕ, zero, suc, ◌+◌, ◌-◌, ◌<◌, ◌≤◌, Bool, true, false, cond, List, length, Option, Some, None, ⊎_elim, refl, sym, ap, ◌∙◌, arith, eq-eqb, ne_eqb}
 use Rattle.std.proofs.lemmas.Bool.{cases_eq}
 use Rattle.std.proofs.lemmas.Bool.Decides.{nat_tests}
 use Rattle.std.proofs.lemmas.Grind.{common_steps}
 use Rattle.std.proofs.lemmas.List.{length-replicate}
-use Rattle.std.proofs.Math.ListN.{length-set}
-use Rattle.sl_model.specs.Pages.{Pages, set_byte, set_bytes}
+use Rattle.sl_model.specs.Pages.{Pages}
 use Rattle.sl_model.specs.PagesLaws.{AreWhole}
-use Rattle.replay.specs.Opening.{zero_page, map_page, map_pages}
+use Rattle.sl_model.specs.Mapping.{zero_page, map_page, map_pages}
 
--- ---- pages of zeros that are mapped where none stands
+-- ---- which pages stand in memory then
 
 -- a page, or one of zeros where there is none and it is to be mapped
 abbrev pub or_zeros : Option (List ℕ) → Bool → Option (List ℕ)
@@ -67,11 +64,11 @@ chosen mapped pages page number is = ⊎_elim
     other true apart = refl
     other false apart = grind (arith, gets, common_steps, apart)
 
-get-map_page : (pages : Pages) (page number : ℕ) → get (map_page pages page) number ≡ or_zeros (get pages number) (nat_eq number page)
+pub get-map_page : (pages : Pages) (page number : ℕ) → get (map_page pages page) number ≡ or_zeros (get pages number) (nat_eq number page)
 get-map_page pages page number = chosen (contains_key pages page) pages page number refl
 
-one_more : (first count number : ℕ) → (nat_eq number first || is_among (first + 1) (first + 1 + count) number) ≡ is_among first (first + suc count) number
-one_more first count number = grind (arith, nat_tests)
+one_first : (first count number : ℕ) → (nat_eq number first || is_among (first + 1) (first + 1 + count) number) ≡ is_among first (first + suc count) number
+one_first first count number = grind (arith, nat_tests)
 
 pub get-map_pages : (pages : Pages) (first count number : ℕ) → get (map_pages pages first count) number ≡ or_zeros (get pages number) (is_among first (first + count) number)
 unfolding map_pages
@@ -82,30 +79,40 @@ get-map_pages pages first (suc count) number =
     get-map_pages (map_page pages first) (first + 1) count number
     ∙ ap (λ page. or_zeros page (is_among (first + 1) (first + 1 + count) number)) (get-map_page pages first number)
     ∙ or_zeros-twice (get pages number) (nat_eq number first) (is_among (first + 1) (first + 1 + count) number)
-    ∙ ap (or_zeros (get pages number)) (one_more first count number)
+    ∙ ap (or_zeros (get pages number)) (one_first first count number)
 
 pub AreWhole-map_pages : (pages : Pages) (first count : ℕ) → AreWhole pages → AreWhole (map_pages pages first count)
 AreWhole-map_pages pages first count whole number =
     rw (get-map_pages pages first count number) (whole-or_zeros (get pages number) (is_among first (first + count) number) (whole number))
 
--- ---- bytes that are written
+pub is_some-map_pages : (pages : Pages) (first count number : ℕ) → is_some (get (map_pages pages first count) number) ≡ (is_some (get pages number) || is_among first (first + count) number)
+is_some-map_pages pages first count number = ap is_some (get-map_pages pages first count number) ∙ is_some-or_zeros (get pages number) (is_among first (first + count) number)
 
-chosen_whole : (b : Bool) (page : List ℕ) (other : Option (List ℕ)) → length page ≡ 4096 → IfSome other (λ p. length p ≡ 4096) → IfSome (cond b (Some page) other) (λ p. length p ≡ 4096)
-chosen_whole true page other whole rest = whole
-chosen_whole false page other whole rest = rest
+-- ---- one page after the other
 
-pub AreWhole-insert : (pages : Pages) (number : ℕ) (page : List ℕ) → AreWhole pages → length page ≡ 4096 → AreWhole (insert pages number page)
-AreWhole-insert pages number page whole is q = rw (get-insert nat_cmp_total pages number page q) (chosen_whole (eq_by_cmp nat_cmp q number) page (get pages q) is (whole q))
+pub map_page_new : (pages : Pages) (page : ℕ) → contains_key pages page ≡ false → map_page pages page ≡ insert pages page zero_page
+map_page_new pages page new = rw new refl
 
-replaced_whole : (pages : Pages) (number offset b : ℕ) (page : Option (List ℕ)) → AreWhole pages → IfSome page (λ p. length p ≡ 4096) → AreWhole (unwrap_or (option_map (λ p. insert pages number (slice_set p offset b)) page) pages)
-replaced_whole pages number offset b None whole is = whole
-replaced_whole pages number offset b (Some page) whole is = AreWhole-insert pages number (slice_set page offset b) whole (length-set page offset b ∙ is)
+one_more : (b : Bool) (n : ℕ) → cond b n (cond b n (n + 1)) ≤ n + 1
+one_more true n = omega arith
+one_more false n = omega arith
 
-AreWhole-set_byte : (pages : Pages) (address b : ℕ) → AreWhole pages → AreWhole (set_byte pages address b)
-unfolding set_byte
-AreWhole-set_byte pages address b whole = replaced_whole pages (address / 4096) (address % 4096) b (get pages (address / 4096)) whole (whole (address / 4096))
+len_of_choice : (b : Bool) (pages : Pages) (page : ℕ) → contains_key pages page ≡ b → len (cond b pages (insert pages page zero_page)) ≡ cond b (len pages) (cond b (len pages) (len pages + 1))
+len_of_choice true pages page e = refl
+len_of_choice false pages page e = len-insert nat_cmp_total pages page zero_page ∙ ap (λ (b : Bool). cond b (len pages) (len pages + 1)) e
 
-pub AreWhole-set_bytes : (pages : Pages) (address : ℕ) (bytes : List ℕ) → AreWhole pages → AreWhole (set_bytes pages address bytes)
-unfolding set_bytes
-AreWhole-set_bytes pages address [] whole = whole
-AreWhole-set_bytes pages address (b ∷ bs) whole = AreWhole-set_bytes (set_byte pages address b) (address + 1) bs (AreWhole-set_byte pages address b whole)
+pub len-map_page : (pages : Pages) (page : ℕ) → len (map_page pages page) ≤ len pages + 1
+len-map_page pages page = rw (len_of_choice (contains_key pages page) pages page refl) (one_more (contains_key pages page) (len pages))
+
+pub map_pages_step : (pages new : Pages) (page stop : ℕ) → page < stop → new ≡ map_page pages page → map_pages new (page + 1) (stop - (page + 1)) ≡ map_pages pages page (stop - page)
+unfolding map_pages
+map_pages_step pages new page stop lt is =
+    let left = stop - (page + 1) in
+    let one : stop - page ≡ suc (stop - (page + 1)) = omega arith in
+    ap (λ (p : Pages). map_pages p (page + 1) left) is ∙ sym (ap (map_pages pages page) one)
+
+pub map_pages_done : (pages : Pages) (page stop : ℕ) → stop ≤ page → map_pages pages page (stop - page) ≡ pages
+unfolding map_pages
+map_pages_done pages page stop le =
+    let none : stop - page ≡ 0 = omega arith in
+    ap (map_pages pages page) none
