@@ -1,0 +1,16 @@
+//! The words of a command line: plain words and options, and the command that they name.
+#![tactic(auto)]
+
+mod numbers;
+mod orders;
+mod parts;
+mod rows;
+mod settings;
+mod usage;
+
+pub use orders::{Order, RecordOptions, TraceOptions};
+pub use rows::read_words;
+pub use usage::Usage;
+
+#[cfg(test)]
+mod tests;

@@ -1,0 +1,147 @@
+//! Words, and the commands that they name.
+
+use crate::read_words;
+use sl_base::Refused;
+use std::alloc::Global;
+use std::test::Fail;
+
+/// Words with one blank between two, and behind `=>` the command that they name, or nothing.
+const ROWS: &str =
+    r#"trace a.rec b.sl => Trace { recording: "a.rec", script: "b.sl", options: TraceOptions { workers: 1, epochs: None, analyses: ["all"] } }
+trace a.rec at 0x10008 => TraceAt { recording: "a.rec", address: 65544, options: TraceOptions { workers: 1, epochs: None, analyses: ["all"] } }
+trace a.rec at FFFFFFFF => TraceAt { recording: "a.rec", address: 4294967295, options: TraceOptions { workers: 1, epochs: None, analyses: ["all"] } }
+trace --epochs 4096 a.rec --workers=16 at 0 => TraceAt { recording: "a.rec", address: 0, options: TraceOptions { workers: 16, epochs: Some(4096), analyses: ["all"] } }
+trace a.rec b.sl --analyse word=1:2 --analyse=count --epochs 0000000000001 => Trace { recording: "a.rec", script: "b.sl", options: TraceOptions { workers: 1, epochs: Some(1), analyses: ["word=1:2", "count"] } }
+trace a.rec ./at => Trace { recording: "a.rec", script: "./at", options: TraceOptions { workers: 1, epochs: None, analyses: ["all"] } }
+trace a.rec at =>
+trace a.rec -- at =>
+trace -- a.rec at 1 => TraceAt { recording: "a.rec", address: 1, options: TraceOptions { workers: 1, epochs: None, analyses: ["all"] } }
+trace -- --epochs -- => Trace { recording: "--epochs", script: "--", options: TraceOptions { workers: 1, epochs: None, analyses: ["all"] } }
+trace - at 0 => TraceAt { recording: "-", address: 0, options: TraceOptions { workers: 1, epochs: None, analyses: ["all"] } }
+trace  b.sl => Trace { recording: "", script: "b.sl", options: TraceOptions { workers: 1, epochs: None, analyses: ["all"] } }
+trace a.rec at  =>
+trace a.rec at 0x =>
+trace a.rec at 0X1 =>
+trace a.rec at 123456789 =>
+trace a.rec at 1g =>
+trace a.rec at +1 =>
+trace a.rec to 0 =>
+trace a.rec at 0 0 =>
+Trace a.rec at 0 =>
+-- trace a.rec at 0 =>
+--workers 2 trace a.rec at 0 =>
+trace -x at 0 =>
+trace a.rec at 0 --epochs =>
+trace a.rec at 0 --epochs= =>
+trace a.rec at 0 --epochs  =>
+trace a.rec at 0 --epochs - =>
+trace a.rec at 0 --epochs -- =>
+trace a.rec at 0 --epochs -1 =>
+trace a.rec at 0 --epochs 0 =>
+trace a.rec at 0 --epochs 4097 =>
+trace a.rec at 0 --epochs 0x2 =>
+trace a.rec at 0 --epochs 00000000000002 =>
+trace a.rec at 0 --epochs=2 --epochs=2 =>
+trace a.rec at 0 --epoch 2 =>
+trace a.rec at 0 --every 2 =>
+trace a.rec at 0 --workers 0 =>
+trace a.rec at 0 --workers 17 =>
+trace a.rec b.sl --analyse= =>
+replay a.rec => Replay { recording: "a.rec" }
+replay a.rec --epochs 2 =>
+replay a.rec b.rec =>
+check a.rec => Check { recording: "a.rec" }
+check =>
+record a.elf b.rec => Record { image: "a.elf", output: "b.rec", options: RecordOptions { flat: None, limit: 1000000000, every: 1000000, arguments: [] } }
+record a.bin b.rec --flat 10000 --limit 1099511627776 --every=1 => Record { image: "a.bin", output: "b.rec", options: RecordOptions { flat: Some(65536), limit: 1099511627776, every: 1, arguments: [] } }
+record a.elf b.rec --arg= --arg=-x --arg y --arg=a=b => Record { image: "a.elf", output: "b.rec", options: RecordOptions { flat: None, limit: 1000000000, every: 1000000, arguments: ["", "-x", "y", "a=b"] } }
+record a.elf b.rec --arg -x =>
+record a.elf b.rec --limit 0 =>
+record a.elf b.rec --limit 1099511627777 =>
+record a.elf b.rec --flat 10000 --flat 10000 =>
+recut a.rec b.rec => Recut { recording: "a.rec", output: "b.rec", every: 1000000 }
+recut a.rec b.rec --every 7 => Recut { recording: "a.rec", output: "b.rec", every: 7 }
+recut a.rec b.rec --every 0 =>
+asm a.s b.elf => Asm { source: "a.s", output: "b.elf" }
+asm a.s =>
+show a.elf 10000 4096 => Show { image: "a.elf", address: 65536, lines: 4096, flat: None }
+show a.bin 0 1 --flat 0 => Show { image: "a.bin", address: 0, lines: 1, flat: Some(0) }
+show a.elf 10000 0 =>
+show a.elf 10000 4097 =>
+gen 4294967295 1000000 => Gen { seed: 4294967295, size: 1000000 }
+gen 0 1 => Gen { seed: 0, size: 1 }
+gen 4294967296 1 =>
+gen 0 1000001 =>
+gen 0 0 =>
+--help =>
+ =>"#;
+
+/// The words of a text with one blank between two. Two blanks have an empty word between them.
+fn words_of(alloc: Global, text: &str) -> Result<Vec<String>, Fail> {
+    let mut words = Vec::new(alloc);
+    for word in text.split(' ') {
+        words.push(String::from_str(alloc, word)?)?;
+    }
+    Ok(words)
+}
+
+/// The command that words name, as a text, or nothing.
+fn order_of(alloc: Global, words: &[String]) -> Result<String, Fail> {
+    match read_words(alloc, words) {
+        Ok(order) => Ok(format!(in alloc; " {order:?}")?),
+        Err(Refused::Fault(_)) => Ok(String::new(alloc)),
+        Err(Refused::Memory) => Ok(String::from_str(alloc, "memory")?),
+    }
+}
+
+#[test]
+fn rows(rt: HostRuntime) -> Result<(), Fail> {
+    let alloc = rt.alloc();
+    for row in ROWS.lines() {
+        let (text, order) = row.split_once(" =>").ok_or("no row")?;
+        let words = words_of(alloc, text)?;
+        let found = order_of(alloc, &words)?;
+        assert_eq!(rt; found.as_str(), order, "{text}");
+    }
+    let none: [String; 0] = [];
+    assert!(rt; order_of(alloc, &none)?.is_empty());
+    Ok(())
+}
+
+/// So many times one byte.
+fn repeated(alloc: Global, byte: char, count: u32) -> Result<String, Fail> {
+    let mut text = String::new(alloc);
+    for _ in 0..count {
+        text.push(byte)?;
+    }
+    Ok(text)
+}
+
+/// Whether `record` takes so many arguments, which begin with `--arg=` and have this text behind it.
+fn takes_arguments(alloc: Global, count: u32, text: &str) -> Result<bool, Fail> {
+    let mut words = words_of(alloc, "record a.elf b.rec")?;
+    for _ in 0..count {
+        words.push(format!(in alloc; "--arg={text}")?)?;
+    }
+    Ok(read_words(alloc, &words).is_ok())
+}
+
+#[test]
+fn limits(rt: HostRuntime) -> Result<(), Fail> {
+    let alloc = rt.alloc();
+    assert!(rt; takes_arguments(alloc, 64, "")?);
+    assert!(rt; !takes_arguments(alloc, 65, "")?);
+    assert!(rt; takes_arguments(alloc, 1, repeated(alloc, 'a', 65_535)?.as_str())?);
+    assert!(rt; !takes_arguments(alloc, 1, repeated(alloc, 'a', 65_536)?.as_str())?);
+    assert!(rt; takes_arguments(alloc, 2, repeated(alloc, 'a', 32_767)?.as_str())?);
+    assert!(rt; !takes_arguments(alloc, 2, repeated(alloc, 'a', 32_768)?.as_str())?);
+    assert!(rt; !takes_arguments(alloc, 1, "a\0b")?);
+    let mut words = words_of(alloc, "trace a.rec b.sl")?;
+    for _ in 0..32 {
+        words.push(String::from_str(alloc, "--analyse=all")?)?;
+    }
+    assert!(rt; read_words(alloc, &words).is_ok());
+    words.push(String::from_str(alloc, "--analyse=all")?)?;
+    assert!(rt; read_words(alloc, &words).is_err());
+    Ok(())
+}
