@@ -10,7 +10,7 @@ use Rattle.elf_image.specs.declared.image.Segment.{Segment}
 use Rattle.elf_image.specs.declared.fault.ImageFault.{ImageFault}
 use Rattle.elf_image.specs.declared.fault.ImageCause.TheVariants.{SegmentRange, Overlap}
 use Rattle.elf_image.specs.Reading.{Gives}
-use Rattle.elf_image.specs.Flat.{MEMORY_END, MOST_PAGES, STACK_PAGES, page_count, meets_stack, one_segment, flat_fault, flat_image}
+use Rattle.elf_image.specs.Flat.{MEMORY_END, MOST_LOADED_PAGES, STACK_PAGES, page_count, meets_stack, one_segment, flat_fault, flat_image}
 use Rattle.elf_image.specs.Loadable.{segment_pages, page_set, number_of_pages, IsPlaced, IsLoadable}
 use Rattle.elf_image.proofs.PageSet.{len-from_list-le}
 
@@ -18,11 +18,11 @@ use Rattle.elf_image.proofs.PageSet.{len-from_list-le}
 record IsFlat (address : ℕ) (bytes : List ℕ) : Type 0 where
   some : (length bytes == 0) ≡ false
   below_end : nat_lt MEMORY_END (address + length bytes) ≡ false
-  few : nat_lt MOST_PAGES (page_count address (length bytes) + STACK_PAGES) ≡ false
+  few : nat_lt MOST_LOADED_PAGES (page_count address (length bytes) + STACK_PAGES) ≡ false
   beside_stack : meets_stack address (length bytes) ≡ false
 
 tried : (address : ℕ) (bytes : List ℕ) (image : Image) (none past many over : Bool)
-    → (length bytes == 0) ≡ none → nat_lt MEMORY_END (address + length bytes) ≡ past → nat_lt MOST_PAGES (page_count address (length bytes) + STACK_PAGES) ≡ many → meets_stack address (length bytes) ≡ over
+    → (length bytes == 0) ≡ none → nat_lt MEMORY_END (address + length bytes) ≡ past → nat_lt MOST_LOADED_PAGES (page_count address (length bytes) + STACK_PAGES) ≡ many → meets_stack address (length bytes) ≡ over
     → (if none then flat_fault SegmentRange else if past then flat_fault SegmentRange else if many then flat_fault SegmentRange else if over then flat_fault Overlap else Ok (one_segment address bytes)) ≡ Ok image
     → IsFlat address bytes × (one_segment address bytes ≡ image)
 tried address bytes image true past many over empty within few apart is = absurd cc
@@ -71,14 +71,14 @@ module _ (address : ℕ) (bytes : List ℕ) (start : address < 2 ^ 32) (each : A
     some = ap (λ b. b || false) (lt-ltb 0 (length bytes) takes);
     placed = (placed, tt);
     apart = λ i j d before within. absurd (omega arith);
-    few = omega (arith, pages, ltb-false MOST_PAGES (page_count address (length bytes) + STACK_PAGES) flat.few);
+    few = omega (arith, pages, ltb-false MOST_LOADED_PAGES (page_count address (length bytes) + STACK_PAGES) flat.few);
     named = tt;
   }
 
 pub IsLoadable-flat : (address : ℕ) (bytes : List ℕ) (image : Image) → address < 2 ^ 32 → All (λ b. b < 256) bytes → flat_image address bytes ≡ Ok image → IsLoadable image
 unfolding flat_image
 IsLoadable-flat address bytes image start each is =
-    let found = tried address bytes image (length bytes == 0) (nat_lt MEMORY_END (address + length bytes)) (nat_lt MOST_PAGES (page_count address (length bytes) + STACK_PAGES)) (meets_stack address (length bytes)) refl refl refl refl is in
+    let found = tried address bytes image (length bytes == 0) (nat_lt MEMORY_END (address + length bytes)) (nat_lt MOST_LOADED_PAGES (page_count address (length bytes) + STACK_PAGES)) (meets_stack address (length bytes)) refl refl refl refl is in
     subst IsLoadable found.1 (loaded address bytes start each found.0)
 
 -- what the call gives, where it gives one

@@ -1,3 +1,9 @@
 pub mod Reading
 pub mod Flat
 pub mod Loadable
+pub mod Checks
+pub mod Header
+pub mod Segments
+pub mod Symbols
+pub mod Elf
+pub mod Ranges

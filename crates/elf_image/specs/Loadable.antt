@@ -6,7 +6,8 @@ use Rattle.std.specs.FinSet.{FinSet, from_list, len}
 use Rattle.sl_base.specs.declared.symbol.Symbol.{Symbol}
 use Rattle.elf_image.specs.declared.image.Image.{Image}
 use Rattle.elf_image.specs.declared.image.Segment.{Segment}
-use Rattle.elf_image.specs.Flat.{MEMORY_END, MOST_PAGES, STACK_PAGES, page_count, meets_stack}
+use Rattle.sl_model.specs.declared.layout.TheConstants.{PAGE_SIZE, MEMORY_END, STACK_PAGES, MOST_LOADED_PAGES}
+use Rattle.elf_image.specs.Flat.{page_count, meets_stack}
 
 abbrev pub takes_memory : Segment → Bool
 takes_memory segment = nat_lt 0 segment.memsz
@@ -23,13 +24,13 @@ ShareNoByte a b = (address : ℕ) → IsByteOf a address → IsByteOf b address 
 abbrev pub segment_pages : Segment → List ℕ
 segment_pages segment =
     if takes_memory segment
-    then range_with_len (segment.vaddr / 4096) (page_count segment.vaddr segment.memsz)
+    then range_with_len (segment.vaddr / PAGE_SIZE) (page_count segment.vaddr segment.memsz)
     else []
 
 -- does the page meet a segment
 abbrev pub meets_page : Segment → ℕ → Bool
 meets_page segment page =
-    let first = segment.vaddr / 4096 in
+    let first = segment.vaddr / PAGE_SIZE in
     let count = page_count segment.vaddr segment.memsz in
     takes_memory segment && (nat_le first page && nat_lt page (first + count))
 
@@ -58,5 +59,5 @@ pub record IsLoadable (image : Image) : Type 0 where
   pub some : list_any takes_memory image.segments ≡ true
   pub placed : AllByRecursion IsPlaced image.segments
   pub apart : AllPairs ShareNoByte image.segments
-  pub few : number_of_pages image.segments + STACK_PAGES ≤ MOST_PAGES
+  pub few : number_of_pages image.segments + STACK_PAGES ≤ MOST_LOADED_PAGES
   pub named : AllByRecursion IsNamed image.symbols

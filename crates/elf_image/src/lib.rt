@@ -1,9 +1,17 @@
 //! Images of programs: what is loaded where, and which names stand for what.
 #![tactic(auto)]
 
+mod check;
 mod fault;
+mod fields;
 mod flat;
+mod header;
+mod headers;
 mod image;
+mod loaded;
+mod memory;
+mod pages;
+mod segments;
 #[cfg(test)]
 mod tests;
 
