@@ -1,3 +1,4 @@
 mod Totals
 mod Keeps
 mod Steps
+mod Rising

@@ -1,5 +1,5 @@
 -- What contracts see of a board and of a seat.
-use Rattle.std.specs.Prelude.{ℕ, ◌+◌, Bool, ◌||◌, List, [], ◌++◌, Option}
+use Rattle.std.specs.Prelude.{◌≡◌, ℕ, ◌+◌, ◌-◌, max, Bool, ◌||◌, List, [], ◌∷◌, ◌++◌, Option}
 use Rattle.atomic_table.specs.Seated.{TableId}
 
 -- which board it is, how many epochs it has, and how many seats can be made of it
@@ -34,3 +34,17 @@ joined seat other = record {
   seen = seat.seen ++ other.seen;
   told = seat.told || other.told;
 }
+
+-- the least number above each of these
+abbrev pub above : List ℕ → ℕ
+above [] = 0
+above (k ∷ ks) = max (k + 1) (above ks)
+
+-- how many epochs of the board are above all that the seat claimed
+abbrev pub epochs_left : SeatState → ℕ
+epochs_left seat = seat.board.epochs - above seat.claims
+
+-- a seat of the board with this share, told or not, that has claimed these epochs
+abbrev pub IsSeatOf : BoardId → ℕ → Bool → List ℕ → SeatState → Type 0
+IsSeatOf board share told claims seat =
+    (seat.board ≡ board) × (seat.share ≡ share) × (seat.told ≡ told) × (seat.claims ≡ claims)

@@ -1,7 +1,7 @@
 //! The board and its seats.
 
 ghost use Rattle.std.specs.Prelude.{◌≡◌, ℕ, ◌+◌, ◌-◌, ◌<◌, ◌≤◌, true, false, [], ◌∷◌, ◌++◌, Some, IfOk, IfSome, IfNone, All, Contains};
-ghost use Rattle.epoch_board.specs.Seats.{new_seat, joined};
+ghost use Rattle.epoch_board.specs.Seats.{new_seat, joined, epochs_left};
 ghost use Rattle.epoch_board.specs.Rule.{times};
 ghost use Rattle.epoch_board.specs.Views.{epoch_of};
 
@@ -103,13 +103,12 @@ impl Board {
         requires not_told { seat.old.told ≡ false }
         ensures epoch { IfSome result (λ k. k < self.now.epochs) }
         ensures rising { IfSome result (λ k. All (λ c. c < k) seat.old.claims) }
+        ensures fewer { IfSome result (λ _. epochs_left seat.new < epochs_left seat.old) }
         ensures claimed { IfSome result (λ k. seat.new ≡ record seat.old { claims = seat.old.claims ++ k ∷ [] }) }
         ensures told { IfNone result (seat.new ≡ record seat.old { told = true }) }
     {
-        let drawn = self
-            .table
-            .shared
-            .fetch_add::<Claim>(&mut seat.seat, NEXT, 1);
+        let words = &self.table.shared;
+        let drawn = words.fetch_add::<Claim>(&mut seat.seat, NEXT, 1);
         self.epoch_of(drawn)
     }
 
@@ -119,7 +118,8 @@ impl Board {
         ensures epoch { IfSome result (λ k. k < self.now.epochs) }
         ensures seen { seat.new ≡ record seat.old { seen = seat.old.seen ++ result ∷ [] } }
     {
-        let word = self.table.shared.load::<Look>(&mut seat.seat, LEAST);
+        let words = &self.table.shared;
+        let word = words.load::<Look>(&mut seat.seat, LEAST);
         self.epoch_of(word)
     }
 
@@ -129,9 +129,9 @@ impl Board {
         requires claimed { Contains seat.old.claims k }
         ensures { seat.new ≡ record seat.old { breaks = seat.old.breaks ++ k ∷ [] } }
     {
-        self.table
-            .shared
-            .fetch_min::<Lower>(&mut seat.seat, LEAST, u64::from(k));
+        let words = &self.table.shared;
+        let epoch = u64::from(k);
+        words.fetch_min::<Lower>(&mut seat.seat, LEAST, epoch);
     }
 
     /// The seat takes in another seat of this board, with its share and all that it did.
