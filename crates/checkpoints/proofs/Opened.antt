@@ -16,7 +16,7 @@ use Rattle.rec_format.specs.declared.recording.Recording.{Recording}
 use Rattle.rec_format.specs.declared.recording.CheckpointData.{CheckpointData}
 use Rattle.sl_model.specs.Mapping.{map_pages}
 use Rattle.rec_format.specs.Recorded.{recorded_end, recorded_pages, recorded_state_of, recorded_state, put_all_listed}
-use Rattle.checkpoints.specs.Opening.{IsOpening}
+use Rattle.sl_model.specs.State.{IsOpening}
 
 -- ---- how many pages it has
 

@@ -1,16 +1,20 @@
 -- The memory of the tests: two pages, and none of them a heap's.
-use Rattle.std.proofs.Common.{◌≡◌, ℕ, suc, ◌*◌, ◌<◌, ◌≤◌, ◌⊎◌, Bool, true, false, cond, List, [], ◌∷◌, ◌++◌, length, Some, refl, ap, ◌∙◌, sym, arith, subst, inl, inr, ⊎_elim}
-use Rattle.std.specs.Prelude.{Option, IsSome, is_some, ◌&&◌, not, nat_le, nat_lt, filter, if◌then◌else◌, replicate}
+use Rattle.std.specs.List.{AllByRecursion}
+use Rattle.std.proofs.Math.ListN.{length-set}
+use Rattle.std.proofs.Common.{lit<, lit≤, zero, ◌≡◌, ℕ, suc, ◌*◌, ◌<◌, ◌≤◌, ◌⊎◌, Bool, true, false, cond, List, [], ◌∷◌, ◌++◌, length, Some, refl, ap, ◌∙◌, sym, arith, subst, inl, inr, ⊎_elim}
+use Rattle.std.specs.Prelude.{Option, IsSome, is_some, ◌&&◌, not, nat_le, nat_lt, filter, if◌then◌else◌, replicate, slice_set}
 use Rattle.std.specs.Ordering.{nat_cmp, eq_by_cmp}
 use Rattle.std.specs.Cmp.{nat_cmp_total}
 use Rattle.std.specs.FinMap.{get, insert, len, keys, entries, empty, contains_key, get-insert, get-empty, len-entries}
 use Rattle.std.proofs.lemmas.List.{length-map}
 use Rattle.std.proofs.lemmas.Grind.{common_steps}
-use Rattle.sl_model.specs.Pages.{Pages}
+use Rattle.sl_model.specs.declared.run_state.RunState.TheVariants.{Running}
+use Rattle.sl_model.specs.Pages.{Pages, ArePages}
+use Rattle.sl_model.specs.Words.{IsWord}
+use Rattle.sl_model.proofs.Steps.{words-set_register}
 use Rattle.sl_model.specs.PagesLaws.{is_some-set_bytes}
-use Rattle.sl_model.specs.State.{State}
+use Rattle.sl_model.specs.State.{State, IsOpening}
 use Rattle.page_frames.specs.MarkedPages.{MarkedPages, with_page, with_bytes}
-use Rattle.checkpoints.specs.Opening.{IsOpening}
 use Rattle.checkpoints.proofs.Copying.{part_len}
 
 length-filter_le : (p : ℕ → Bool) (xs : List ℕ) → length (filter p xs) ≤ length xs
@@ -53,23 +57,50 @@ len_of_part part whole sub = part_len (len part) part whole refl sub
 heap_page : (q : ℕ) → (q ≡ 16) ⊎ (q ≡ 20) → 0x12000 ≤ q * 4096 → q * 4096 < 0x14000 → ⊥
 heap_page q is from to = ⊎_elim (λ e. omega arith) (λ e. omega arith) is
 
-pub opening_is : (s : State) → s.layout.brk_start ≡ 0x12000 → s.layout.heap_limit ≡ 0x14000 → s.brk_end ≡ 0x12000 → ((page : ℕ) → IsSome (get s.pages page) → (page ≡ 16) ⊎ (page ≡ 20)) → len s.pages ≤ 2 → IsOpening s
-opening_is s start limit end pages few =
+zeros : (n : ℕ) → AllByRecursion IsWord (replicate n 0)
+zeros zero = tt
+zeros (suc n) = (lit< tt, zeros n)
+
+-- the machine of the tests, with such a memory
+abbrev first_state : Pages → State
+first_state pages =
+    record {
+      pc = 0x10000;
+      x = slice_set (replicate 32 0) 2 0x7fffffe0;
+      pages = pages;
+      brk = 0x12000;
+      brk_end = 0x12000;
+      next_call = 0;
+      status = Running;
+      count = 0;
+      layout = record { brk_start = 0x12000; heap_limit = 0x14000 };
+    }
+
+pub opening_is : (pages : Pages) → ArePages pages → ((page : ℕ) → IsSome (get pages page) → (page ≡ 16) ⊎ (page ≡ 20)) → len pages ≤ 2 → IsOpening (first_state pages)
+opening_is all are pages few =
+    let s : State = first_state all in
     let outer : ℕ → Bool = λ page. not (nat_le s.layout.brk_start (page * 4096) && nat_lt (page * 4096) s.layout.heap_limit) in
     let long : length (keys s.pages) ≡ len s.pages = length-map (entries s.pages) (λ (e : ℕ × List ℕ). e.0) ∙ sym (len-entries s.pages) in
     let outside = length-filter_le outer (keys s.pages) in
     record {
+      state = record {
+        pc = lit< tt;
+        registers = length-set {A = ℕ} (replicate 32 0) 2 0x7fffffe0;
+        words = words-set_register (replicate 32 0) 2 0x7fffffe0 (zeros 32) (lit< tt);
+        zero = refl;
+        pages = are;
+        brk = lit< tt;
+        brk_end = lit< tt;
+        next_call = lit< tt;
+        status = tt;
+        count = lit< tt;
+        layout = record { brk_start = lit< tt; heap_limit = lit< tt };
+      };
       fits = record {
-        layout = record {
-          start = rw start refl;
-          limit = rw limit refl;
-          ordered = omega arith;
-          below_end = omega arith;
-          size = omega arith;
-        };
-        mapped_end = rw end refl;
-        end_from = omega arith;
-        end_to = omega arith;
+        layout = record { start = refl; limit = refl; ordered = lit≤ tt; below_end = lit≤ tt; size = lit≤ tt };
+        mapped_end = refl;
+        end_from = lit≤ tt;
+        end_to = lit≤ tt;
         pages_below = λ page h. ⊎_elim (λ (e : page ≡ 16). omega arith) (λ (e : page ≡ 20). omega arith) (pages page h);
         heap = λ page from to. (
           λ h. absurd (heap_page page (pages page h) (omega arith) (omega arith)),
@@ -77,7 +108,11 @@ opening_is s start limit end pages few =
         );
         few = omega arith;
       };
-      no_heap = end ∙ sym start;
+      running = refl;
+      count = refl;
+      next_call = refl;
+      brk = refl;
+      no_heap = refl;
     }
 
 pub not_in_empty : (m : Pages) (q : ℕ) → m ≡ empty → IsSome (get m q) → ⊥

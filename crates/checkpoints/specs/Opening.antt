@@ -1,13 +1,15 @@
--- The state that a recording opens with.
-use Rattle.std.specs.Prelude.{◌≡◌}
+-- A program before its first instruction has one proof at most of what it keeps, so that a type can keep it.
 use Rattle.std.proofs.Props.{props}
-use Rattle.sl_model.specs.State.{State, Fits}
+use mathlib.Core.HLevel.{Unit-prop}
+use Rattle.sl_model.specs.declared.run_state.RunState.{RunState}
+use Rattle.sl_model.specs.declared.run_state.RunState.TheVariants.{Running, Exited}
+use Rattle.sl_model.specs.State.{State, IsStatus, IsOpening}
 
--- a program before its first instruction: its memory is laid out, and none of its heap is mapped
-pub record IsOpening (s : State) : Type 0 where
-  pub fits : Fits s
-  pub no_heap : s.brk_end ≡ s.layout.brk_start
+pub IsStatus-prop : (status : RunState) → IsProp (IsStatus status)
+IsStatus-prop Running = Unit-prop
+IsStatus-prop (Exited code) = Prim.hlevel props
 
--- this fact has one proof at most
+ruleset opening_props = (props, IsStatus-prop)
+
 pub IsOpening-prop : (s : State) → IsProp (IsOpening s)
-IsOpening-prop s = Prim.hlevel props
+IsOpening-prop s = Prim.hlevel opening_props

@@ -3,7 +3,8 @@
 ghost use Rattle.rv_machine.specs.Machine.{state_of};
 ghost use Rattle.rec_format.specs.Rules.{IsRecordingValue};
 ghost use Rattle.rec_format.specs.OneProof.{IsRecordingValue-prop};
-ghost use Rattle.checkpoints.specs.Opening.{IsOpening, IsOpening-prop};
+ghost use Rattle.sl_model.specs.State.{IsOpening};
+ghost use Rattle.checkpoints.specs.Opening.{IsOpening-prop};
 
 use page_frames::Frames;
 use rec_format::Recording;

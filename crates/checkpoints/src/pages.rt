@@ -5,7 +5,7 @@ ghost use Rattle.sl_model.specs.Mapping.{zero_page};
 ghost use Rattle.rv_machine.specs.Machine.{state_of};
 ghost use Rattle.rec_format.specs.Rules.{IsRecordingValue};
 ghost use Rattle.rec_format.specs.Recorded.{end_place, checkpoint_at, recorded_page};
-ghost use Rattle.checkpoints.specs.Opening.{IsOpening};
+ghost use Rattle.sl_model.specs.State.{IsOpening};
 
 use crate::kept::Checkpoints;
 use page_frames::Frames;

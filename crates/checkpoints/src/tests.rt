@@ -3,7 +3,7 @@
 ghost use Rattle.std.specs.Prelude.{◌≡◌, ℕ, ◌≤◌, ◌⊎◌, IsSome, IfOk};
 ghost use Rattle.std.specs.FinMap.{get, len};
 ghost use Rattle.rv_machine.specs.Machine.{state_of};
-ghost use Rattle.checkpoints.specs.Opening.{IsOpening};
+ghost use Rattle.sl_model.specs.State.{IsOpening};
 
 use crate::Checkpoints;
 use call_log::BreakKind;
@@ -69,6 +69,7 @@ fn opening(alloc: Global) -> Result<(Machine, Frames), Memory>
     ensures { IfOk result (λ p. IsOpening (state_of p.0 p.1.pages)) }
 {
     let frames = memory(alloc)?;
+    let _kept = frames.dirty_len();
     let mut x = [0; 32];
     x[2] = 0x7fff_ffe0;
     let machine = Machine {

@@ -15,22 +15,23 @@ use Rattle.rec_format.specs.Recorded.{end_place, checkpoint_at, recorded_state, 
 use Rattle.rec_format.specs.Compared.{PartDiff, checkpoint_diff, checkpoint_break, as_checkpoint_break}
 use Rattle.epoch_run.specs.Records.{Tracers, records_after}
 use Rattle.epoch_run.specs.Epochs.{between, early_exit, closing_break, epoch_break_from, epoch_records_from}
-use Rattle.epoch_run.specs.Opened.{IsOpened}
-use Rattle.epoch_run.proofs.InRun.{IsInRun, IsInRun-onward}
-use Rattle.epoch_run.proofs.SameState.{same_state}
+use Rattle.sl_model.specs.State.{IsOpening}
+use Rattle.rec_format.proofs.InRun.{IsInRun}
+use Rattle.replay.proofs.InRun.{IsInRun-onward}
+use Rattle.rec_format.proofs.SameState.{same_state}
 
 -- ---- where an epoch does not break
 
 closing_is : (rec : Recording) (b : ℕ) (s : State) → b < end_place rec → closing_break rec b s ≡ early_exit rec s.status
 closing_is rec b s inner = rw (ne_eqb b (end_place rec) (λ same. absurd (omega arith))) refl
 
-arrived : (opened : State) (rec : Recording) (b : ℕ) (s : State) (diff : Option PartDiff) (status : RunState) → IsRecordingValue rec → IsOpened opened → IsInRun opened s → 0 < b → s.count ≡ recorded_count rec b
+arrived : (opened : State) (rec : Recording) (b : ℕ) (s : State) (diff : Option PartDiff) (status : RunState) → IsRecordingValue rec → IsOpening opened → IsInRun opened s → 0 < b → s.count ≡ recorded_count rec b
     → checkpoint_diff opened.pages rec b (checkpoint_at rec b) s ≡ diff → s.status ≡ status → at_count s (option_or (as_checkpoint_break b diff) (early_exit rec status)) ≡ None → s ≡ recorded_state rec opened b
 arrived opened rec b s (Some diff) status is opens runs some count same running none = absurd cc
 arrived opened rec b s None (Exited code) is opens runs some count same running none = absurd cc
 arrived opened rec b s None Running is opens runs some count same running none = same_state rec opened b s is opens runs some running count same
 
-pub arrives : (opened : State) (rec : Recording) (a b : ℕ) (s : State) → IsRecordingValue rec → IsOpened opened → IsInRun opened s → 0 < b → b < end_place rec → s.count ≡ recorded_count rec b
+pub arrives : (opened : State) (rec : Recording) (a b : ℕ) (s : State) → IsRecordingValue rec → IsOpening opened → IsInRun opened s → 0 < b → b < end_place rec → s.count ≡ recorded_count rec b
     → epoch_break_from opened.pages rec a b s 0 ≡ None → s ≡ recorded_state rec opened b
 unfolding epoch_break_from
 arrives opened rec a b s is opens runs some inner count none =
@@ -62,7 +63,7 @@ pub run-zero : (rec : Recording) (s : State) → run_from rec s 0 ≡ Some s
 unfolding run_from
 run-zero rec s = refl
 
-pub run-arrives : (opened : State) (rec : Recording) (a b n : ℕ) (s : State) → IsRecordingValue rec → IsOpened opened → IsInRun opened s → 0 < b → b < end_place rec → s.count + n ≡ recorded_count rec b
+pub run-arrives : (opened : State) (rec : Recording) (a b n : ℕ) (s : State) → IsRecordingValue rec → IsOpening opened → IsInRun opened s → 0 < b → b < end_place rec → s.count + n ≡ recorded_count rec b
     → epoch_break_from opened.pages rec a b s n ≡ None → run_from rec s n ≡ Some (recorded_state rec opened b)
 run-arrives opened rec a b zero s is opens runs some inner count none =
     run-zero rec s ∙ ap Some (arrives opened rec a b s is opens runs some inner (omega arith) none)
@@ -97,7 +98,7 @@ records-zero : (rec : Recording) (tracers : Tracers) (b : ℕ) (s : State) → b
 unfolding epoch_records_from
 records-zero rec tracers b s inner = rw (ne_eqb b (end_place rec) (λ same. absurd (omega arith))) refl
 
-pub records-joined : (opened : State) (rec : Recording) (tracers : Tracers) (a b c n m all : ℕ) (s : State) → IsRecordingValue rec → IsOpened opened → IsInRun opened s → 0 < b → b < end_place rec → s.count + n ≡ recorded_count rec b → all ≡ n + m
+pub records-joined : (opened : State) (rec : Recording) (tracers : Tracers) (a b c n m all : ℕ) (s : State) → IsRecordingValue rec → IsOpening opened → IsInRun opened s → 0 < b → b < end_place rec → s.count + n ≡ recorded_count rec b → all ≡ n + m
     → epoch_break_from opened.pages rec a b s n ≡ None → epoch_records_from rec tracers c s all ≡ epoch_records_from rec tracers b s n ++ epoch_records_from rec tracers c (recorded_state rec opened b) m
 records-joined opened rec tracers a b c zero m all s is opens runs some inner count sum none =
     let number : all ≡ m = omega arith in

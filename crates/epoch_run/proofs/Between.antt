@@ -1,11 +1,12 @@
 -- The checkpoints of an epoch that is cut in two at another checkpoint.
 use Rattle.std.specs.Prelude.{if◌then◌else◌}
 use Rattle.std.specs.Option.{option_or}
-use Rattle.std.proofs.Common.{◌≡◌, ℕ, zero, suc, ◌+◌, ◌-◌, ◌<◌, ◌≤◌, ◌==◌, List, [], ◌∷◌, ◌++◌, length, take, drop, Option, Some, None, get_or, refl, sym, ap, ◌∙◌, arith, drop-drop, take-add, get_or-take, get_or-drop, length-take, length-drop, ne_eqb, eq-eqb}
+use Rattle.std.proofs.Common.{◌≡◌, ℕ, zero, suc, ◌+◌, ◌-◌, ◌<◌, ◌≤◌, ◌==◌, List, [], ◌∷◌, ◌++◌, length, take, drop, Option, None, get_or, refl, sym, ap, ◌∙◌, arith, drop-drop, take-add, get_or-take, get_or-drop, length-take, length-drop, ne_eqb, eq-eqb}
 use Rattle.std.proofs.lemmas.List.{drop_more}
 use Rattle.sl_model.specs.Pages.{Pages}
 use Rattle.sl_model.specs.State.{State}
 use Rattle.call_log.specs.declared.breaks.BreakKind.{BreakKind}
+use Rattle.call_log.proofs.Options.{option_or-none, option_or-assoc}
 use Rattle.rec_format.specs.Rules.{IsRecordingValue}
 use Rattle.rec_format.specs.declared.recording.Recording.{Recording}
 use Rattle.rec_format.specs.declared.recording.CheckpointData.{CheckpointData}
@@ -13,15 +14,7 @@ use Rattle.replay.specs.Breaks.{listed_break}
 use Rattle.rec_format.specs.Recorded.{end_place, checkpoint_at, recorded_count}
 use Rattle.rec_format.specs.Compared.{checkpoint_break}
 use Rattle.epoch_run.specs.Epochs.{between}
-use Rattle.epoch_run.proofs.Counts.{checkpoint_at-suc, recorded_count-suc, counts_rise}
-
-pub option_or-none : {A : Type 0} (x : Option A) → option_or x None ≡ x
-option_or-none None = refl
-option_or-none (Some x) = refl
-
-pub option_or-assoc : {A : Type 0} (x y z : Option A) → (option_or (option_or x y) z) ≡ option_or x (option_or y z)
-option_or-assoc None y z = refl
-option_or-assoc (Some x) y z = refl
+use Rattle.rec_format.proofs.Counts.{checkpoint_at-suc, recorded_count-suc, counts_rise}
 
 -- ---- what stands between two checkpoints
 

@@ -15,10 +15,11 @@ use Rattle.replay.specs.Breaks.{listed_break, at_count, listed_or, break_after}
 use Rattle.rec_format.specs.Recorded.{end_place, checkpoint_at, recorded_state, recorded_count}
 use Rattle.rec_format.specs.Compared.{PartDiff, checkpoint_diff, checkpoint_break, as_checkpoint_break}
 use Rattle.epoch_run.specs.Epochs.{between, early_exit, closing_break, epoch_break_from}
-use Rattle.epoch_run.specs.Opened.{IsOpened}
+use Rattle.sl_model.specs.State.{IsOpening}
 use Rattle.epoch_run.proofs.Between.{listed-before, listed-at, listed-after, listed-none}
-use Rattle.epoch_run.proofs.InRun.{IsInRun, IsInRun-onward}
-use Rattle.epoch_run.proofs.SameState.{same_state}
+use Rattle.rec_format.proofs.InRun.{IsInRun}
+use Rattle.replay.proofs.InRun.{IsInRun-onward}
+use Rattle.rec_format.proofs.SameState.{same_state}
 
 -- a checkpoint between two others, of which the second may be that of the end
 pub record IsCut (rec : Recording) (a b c : ℕ) : Type 0 where
@@ -47,7 +48,7 @@ further_after s None (Breaks kind) f g more same = refl
 
 -- ---- behind b's count the epoch from a and that from b are one
 
-break-after : (opened : Pages) (rec : Recording) (first : State) (a b c n : ℕ) (s : State) → IsRecordingValue rec → IsOpened first → IsCut rec a b c → IsInRun first s → recorded_count rec b < s.count
+break-after : (opened : Pages) (rec : Recording) (first : State) (a b c n : ℕ) (s : State) → IsRecordingValue rec → IsOpening first → IsCut rec a b c → IsInRun first s → recorded_count rec b < s.count
     → epoch_break_from opened rec a c s n ≡ epoch_break_from opened rec b c s n
 unfolding epoch_break_from
 break-after opened rec first a b c zero s is opens cut runs late = refl
@@ -70,7 +71,7 @@ unfolding epoch_break_from
 from_there opened rec b c m s = refl
 
 -- the epoch from a at b's count, by what the checkpoint and the status give
-break-at : (opened : State) (rec : Recording) (a b c m : ℕ) (s : State) (diff : Option PartDiff) (status : RunState) → IsRecordingValue rec → IsOpened opened → IsCut rec a b c → IsInRun opened s → s.count ≡ recorded_count rec b
+break-at : (opened : State) (rec : Recording) (a b c m : ℕ) (s : State) (diff : Option PartDiff) (status : RunState) → IsRecordingValue rec → IsOpening opened → IsCut rec a b c → IsInRun opened s → s.count ≡ recorded_count rec b
     → checkpoint_diff opened.pages rec b (checkpoint_at rec b) s ≡ diff → s.status ≡ status
     → listed_or s (as_checkpoint_break b diff) (break_after s (λ t. epoch_break_from opened.pages rec a c t m) (onward rec s))
     ≡ option_or (at_count s (option_or (as_checkpoint_break b diff) (early_exit rec status))) (epoch_break_from opened.pages rec b c (recorded_state rec opened b) (suc m))
@@ -89,7 +90,7 @@ break-at opened rec a b c m s None Running is opens cut runs count same running 
 
 -- ---- up to b's count, and on from there
 
-pub break-joined : (opened : State) (rec : Recording) (a b c n m all : ℕ) (s : State) → IsRecordingValue rec → IsOpened opened → IsCut rec a b c → IsInRun opened s → s.count + n ≡ recorded_count rec b → 0 < m → all ≡ n + m
+pub break-joined : (opened : State) (rec : Recording) (a b c n m all : ℕ) (s : State) → IsRecordingValue rec → IsOpening opened → IsCut rec a b c → IsInRun opened s → s.count + n ≡ recorded_count rec b → 0 < m → all ≡ n + m
     → epoch_break_from opened.pages rec a c s all ≡ option_or (epoch_break_from opened.pages rec a b s n) (epoch_break_from opened.pages rec b c (recorded_state rec opened b) m)
 unfolding epoch_break_from
 break-joined opened rec a b c zero zero all s is opens cut runs count some sum = absurd (omega arith)

@@ -21,10 +21,10 @@ use Rattle.epoch_cut.specs.Places.{IsCutting}
 use Rattle.epoch_run.specs.Records.{Tracers, records_after, records_from, records}
 use Rattle.epoch_run.specs.Epochs.{between, epoch_size, epoch_break_from, epoch_break, epoch_records_from, epoch_records}
 use Rattle.epoch_run.specs.EpochLaws.{epochs_of, break_of, records_of, NoneBreaks, StartsOnTheRun, LeastBreakIsFirst, BreaksWithTheRun, RecordsOfTheRun}
-use Rattle.epoch_run.specs.Opened.{IsOpened}
-use Rattle.epoch_run.proofs.Counts.{counts_rise, checkpoint_at-suc}
-use Rattle.epoch_run.proofs.Between.{option_or-none}
-use Rattle.epoch_run.proofs.Recorded.{IsInRun-recorded, count-recorded}
+use Rattle.sl_model.specs.State.{IsOpening}
+use Rattle.rec_format.proofs.Counts.{counts_rise, checkpoint_at-suc}
+use Rattle.call_log.proofs.Options.{option_or-none}
+use Rattle.rec_format.proofs.RecordedStates.{IsInRun-recorded, count-recorded}
 use Rattle.epoch_run.proofs.Joined.{IsCut, break-joined}
 use Rattle.epoch_run.proofs.Arrived.{run-arrives, run-add, records-joined}
 
@@ -35,7 +35,7 @@ record Sizes (rec : Recording) (opened : State) (a b c : ℕ) : Type 0 where
   some : 0 < epoch_size rec b c
   sum : epoch_size rec a c ≡ epoch_size rec a b + epoch_size rec b c
 
-sizes : (rec : Recording) (opened : State) (a b c : ℕ) → IsRecordingValue rec → IsOpened opened → IsCut rec a b c → Sizes rec opened a b c
+sizes : (rec : Recording) (opened : State) (a b c : ℕ) → IsRecordingValue rec → IsOpening opened → IsCut rec a b c → Sizes rec opened a b c
 sizes rec opened a b c is opens cut =
     let below = cut.below in
     let above = cut.above in
@@ -44,18 +44,18 @@ sizes rec opened a b c is opens cut =
     let second : recorded_count rec b < recorded_count rec c = counts_rise rec b c is (omega arith) above within in
     record { reaches = omega (arith, count-recorded rec opened a opens); some = omega arith; sum = omega arith }
 
-pub breaks_join : (rec : Recording) (opened : State) (a b c : ℕ) → IsRecordingValue rec → IsOpened opened → IsCut rec a b c → epoch_break rec opened a c ≡ option_or (epoch_break rec opened a b) (epoch_break rec opened b c)
+pub breaks_join : (rec : Recording) (opened : State) (a b c : ℕ) → IsRecordingValue rec → IsOpening opened → IsCut rec a b c → epoch_break rec opened a c ≡ option_or (epoch_break rec opened a b) (epoch_break rec opened b c)
 breaks_join rec opened a b c is opens cut =
     let size = sizes rec opened a b c is opens cut in
     break-joined opened rec a b c (epoch_size rec a b) (epoch_size rec b c) (epoch_size rec a c) (recorded_state rec opened a) is opens cut (IsInRun-recorded rec opened a is opens) size.reaches size.some size.sum
 
-pub records_join : (rec : Recording) (opened : State) (tracers : Tracers) (a b c : ℕ) → IsRecordingValue rec → IsOpened opened → IsCut rec a b c → epoch_break rec opened a b ≡ None
+pub records_join : (rec : Recording) (opened : State) (tracers : Tracers) (a b c : ℕ) → IsRecordingValue rec → IsOpening opened → IsCut rec a b c → epoch_break rec opened a b ≡ None
     → epoch_records rec opened tracers a c ≡ epoch_records rec opened tracers a b ++ epoch_records rec opened tracers b c
 records_join rec opened tracers a b c is opens cut none =
     let size = sizes rec opened a b c is opens cut in
     records-joined opened rec tracers a b c (epoch_size rec a b) (epoch_size rec b c) (epoch_size rec a c) (recorded_state rec opened a) is opens (IsInRun-recorded rec opened a is opens) (omega (arith, cut.below)) (omega (arith, cut.above, cut.within)) size.reaches size.sum none
 
-pub run_joins : (rec : Recording) (opened : State) (a b c : ℕ) → IsRecordingValue rec → IsOpened opened → IsCut rec a b c → epoch_break rec opened a b ≡ None
+pub run_joins : (rec : Recording) (opened : State) (a b c : ℕ) → IsRecordingValue rec → IsOpening opened → IsCut rec a b c → epoch_break rec opened a b ≡ None
     → run_from rec (recorded_state rec opened a) (epoch_size rec a b) ≡ Some (recorded_state rec opened b)
 run_joins rec opened a b c is opens cut none =
     let size = sizes rec opened a b c is opens cut in
@@ -137,7 +137,7 @@ are rec places cut = record {
 
 -- ---- from a place to the end
 
-module _ (rec : Recording) (opened : State) (places : List ℕ) (is : IsRecordingValue rec) (opens : IsOpened opened) (cut : Are (end_place rec) places) where
+module _ (rec : Recording) (opened : State) (places : List ℕ) (is : IsRecordingValue rec) (opens : IsOpening opened) (cut : Are (end_place rec) places) where
   abbrev place : ℕ → ℕ
   place k = slice_index places k
 

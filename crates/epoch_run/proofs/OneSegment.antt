@@ -14,9 +14,9 @@ use Rattle.rec_format.specs.Recorded.{end_place, checkpoint_at, recorded_state, 
 use Rattle.rec_format.specs.Compared.{checkpoint_break}
 use Rattle.epoch_run.specs.Records.{Tracers}
 use Rattle.epoch_run.specs.Epochs.{epoch_size, epoch_break_from, epoch_break, epoch_records_from, epoch_records, closing_break, closing_records}
-use Rattle.epoch_run.specs.Opened.{IsOpened}
+use Rattle.sl_model.specs.State.{IsOpening}
 use Rattle.epoch_run.specs.Segments.{IsUnderWay, BrokeOff, StopsAt}
-use Rattle.epoch_run.proofs.Recorded.{count-recorded}
+use Rattle.rec_format.proofs.RecordedStates.{count-recorded}
 use Rattle.epoch_run.proofs.Arrived.{run-zero}
 use Rattle.epoch_run.proofs.OneRun.{run_joins}
 use Rattle.epoch_run.proofs.SoFar.{counts_up}
@@ -24,7 +24,7 @@ use Rattle.epoch_run.proofs.SoFar.{counts_up}
 -- the interval from checkpoint j to the next one, at its first state
 pub record IsSegment (rec : Recording) (opened : State) (j : ℕ) (s : State) (upto : ℕ) : Type 0 where
   pub value : IsRecordingValue rec
-  pub opens : IsOpened opened
+  pub opens : IsOpening opened
   pub within : j < end_place rec
   pub at : s ≡ recorded_state rec opened j
   pub last : upto ≡ recorded_count rec (j + 1)

@@ -10,10 +10,12 @@ use Rattle.replay.specs.Breaks.{at_count}
 use Rattle.rec_format.specs.Recorded.{end_place, checkpoint_at}
 use Rattle.rec_format.specs.Compared.{PartDiff, machine_diff, pages_diff, PAGE_NUMBERS, checkpoint_diff, as_checkpoint_break, checkpoint_break}
 use Rattle.epoch_run.specs.Epochs.{closing_break, epoch_break_from}
-use Rattle.epoch_run.specs.Opened.{IsOpened}
+use Rattle.sl_model.specs.State.{IsOpening}
 use Rattle.epoch_run.specs.EpochLaws.{ComesToTheEnd}
-use Rattle.epoch_run.proofs.InRun.{IsInRun, IsInRun-opened, IsInRun-onward}
-use Rattle.epoch_run.proofs.SameState.{IsSameMachine, first_none, same_machine, all_registers}
+use Rattle.rec_format.proofs.InRun.{IsInRun, IsInRun-opened}
+use Rattle.replay.proofs.InRun.{IsInRun-onward}
+use Rattle.rec_format.proofs.SameState.{IsSameMachine, same_machine, all_registers}
+use Rattle.call_log.proofs.Options.{first_none}
 use Rattle.epoch_run.proofs.Arrived.{goes_onto, run-suc, run-zero}
 use Rattle.epoch_run.proofs.OneRun.{last_is_last, whole_break}
 
@@ -48,7 +50,7 @@ record Came (rec : Recording) (checkpoint : CheckpointData) (s : State) (n : ℕ
   pub pc : last.pc ≡ checkpoint.pc
   pub x : last.x ≡ 0 ∷ checkpoint.x
 
-came : (opened : State) (rec : Recording) (a b n : ℕ) (s : State) → IsOpened opened → IsInRun opened s → length (checkpoint_at rec b).x ≡ 31 → epoch_break_from opened.pages rec a b s n ≡ None → Came rec (checkpoint_at rec b) s n
+came : (opened : State) (rec : Recording) (a b n : ℕ) (s : State) → IsOpening opened → IsInRun opened s → length (checkpoint_at rec b).x ≡ 31 → epoch_break_from opened.pages rec a b s n ≡ None → Came rec (checkpoint_at rec b) s n
 came opened rec a b zero s opens runs long none =
     let same = same_at opened rec a b s none in
     record { last = s; run = run-zero rec s; count = omega arith; pc = sym same.pc; x = all_registers s.x (checkpoint_at rec b).x runs.registers long runs.zero same.x }
@@ -58,7 +60,7 @@ came opened rec a b (suc n) s opens runs long none =
     let rest = came opened rec a b n on.state opens next.in_run long on.none in
     record { last = rest.last; run = run-suc rec s on.state n on.goes ∙ rest.run; count = omega (arith, rest.count, next.count); pc = rest.pc; x = rest.x }
 
-pub comes_to_the_end : (rec : Recording) (opened : State) → IsRecordingValue rec → IsOpened opened → ComesToTheEnd rec opened
+pub comes_to_the_end : (rec : Recording) (opened : State) → IsRecordingValue rec → IsOpening opened → ComesToTheEnd rec opened
 comes_to_the_end rec opened is opens none =
     let long : length (checkpoint_at rec (end_place rec)).x ≡ 31 = ap (λ (c : CheckpointData). length c.x) (last_is_last rec) ∙ is.last.x.number in
     let end = came opened rec 0 (end_place rec) rec.last.count opened opens (IsInRun-opened opened opens) long (sym (whole_break opened.pages rec rec.last.count opened) ∙ none) in

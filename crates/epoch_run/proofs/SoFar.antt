@@ -14,8 +14,8 @@ use Rattle.rec_format.specs.Recorded.{end_place, recorded_count}
 use Rattle.epoch_run.specs.Records.{Tracers}
 use Rattle.epoch_run.specs.Epochs.{epoch_break, epoch_records, value_of, epoch_value}
 use Rattle.epoch_run.specs.Segments.{StopsAt}
-use Rattle.epoch_run.specs.Opened.{IsOpened}
-use Rattle.epoch_run.proofs.Counts.{counts_rise}
+use Rattle.sl_model.specs.State.{IsOpening}
+use Rattle.rec_format.proofs.Counts.{counts_rise}
 use Rattle.epoch_run.proofs.OneRun.{breaks_join, records_join}
 
 -- ---- counts
@@ -41,7 +41,7 @@ pub record IsSoFar (rec : Recording) (opened : State) (tracers : Tracers) (a j :
 pub starts : (rec : Recording) (opened : State) (tracers : Tracers) (a : ℕ) → IsSoFar rec opened tracers a a []
 starts rec opened tracers a = record { breaks = λ below. absurd (omega arith); records = λ below. absurd (omega arith); none = λ same. refl }
 
-module _ (rec : Recording) (opened : State) (tracers : Tracers) (a j : ℕ) (left : List Record) (is : IsRecordingValue rec) (opens : IsOpened opened) (from : a ≤ j) (so_far : IsSoFar rec opened tracers a j left) where
+module _ (rec : Recording) (opened : State) (tracers : Tracers) (a j : ℕ) (left : List Record) (is : IsRecordingValue rec) (opens : IsOpening opened) (from : a ≤ j) (so_far : IsSoFar rec opened tracers a j left) where
   -- with one more segment
   next_break : j < end_place rec → epoch_break rec opened a (j + 1) ≡ epoch_break rec opened j (j + 1)
   next_break within = ⊎_elim

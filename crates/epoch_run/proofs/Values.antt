@@ -10,7 +10,7 @@ use Rattle.rec_format.specs.Recorded.{end_place}
 use Rattle.epoch_run.specs.Records.{Tracers}
 use Rattle.epoch_run.specs.Epochs.{value_of}
 use Rattle.epoch_run.specs.EpochLaws.{epochs_of, break_of, records_of, NoneBreaks, AllRan, FirstBrokeIsFirst, AllRanAreTheRun}
-use Rattle.epoch_run.specs.Opened.{IsOpened}
+use Rattle.sl_model.specs.State.{IsOpening}
 use Rattle.epoch_run.proofs.OneRun.{Are, least_break, breaks_with_run, records_of_run}
 
 -- ---- a value, read back
@@ -37,11 +37,11 @@ same_flat_map f g a zero same = refl
 same_flat_map f g a (suc n) same =
     ap₂ (λ (first rest : List Record). first ++ rest) (same a (omega arith) (omega arith)) (same_flat_map f g (a + 1) n (λ k from below. same k (omega arith) (omega arith)))
 
-pub first_broke : (rec : Recording) (opened : State) (tracers : Tracers) (places : List ℕ) → IsRecordingValue rec → IsOpened opened → Are (end_place rec) places → FirstBrokeIsFirst rec opened tracers places
+pub first_broke : (rec : Recording) (opened : State) (tracers : Tracers) (places : List ℕ) → IsRecordingValue rec → IsOpening opened → Are (end_place rec) places → FirstBrokeIsFirst rec opened tracers places
 first_broke rec opened tracers places is opens cut left k broken within ran breaks =
     least_break rec opened places is opens cut k broken within (none_breaks rec opened tracers places left k ran) (broke_some (records_of rec opened tracers places k) (break_of rec opened places k) broken breaks)
 
-pub all_ran : (rec : Recording) (opened : State) (tracers : Tracers) (places : List ℕ) → IsRecordingValue rec → IsOpened opened → Are (end_place rec) places → AllRanAreTheRun rec opened tracers places
+pub all_ran : (rec : Recording) (opened : State) (tracers : Tracers) (places : List ℕ) → IsRecordingValue rec → IsOpening opened → Are (end_place rec) places → AllRanAreTheRun rec opened tracers places
 all_ran rec opened tracers places is opens cut left ran =
     let none : NoneBreaks rec opened places (epochs_of places) = none_breaks rec opened tracers places left (epochs_of places) ran in (
       (breaks_with_run rec opened places is opens cut).0 none,

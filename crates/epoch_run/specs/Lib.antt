@@ -1,6 +1,5 @@
 pub mod Records
 pub mod Epochs
-pub mod Opened
 pub mod EpochLaws
 pub mod Segments
 pub mod Plans

@@ -3,15 +3,10 @@ use Rattle.std.specs.Prelude.{◌≡◌, ℕ, List, Option, Some, None}
 use Rattle.std.specs.Coded.{Coded, Coded-set, code_by, coded×, coded_ℕ, coded_list, coded_option}
 use Rattle.std.specs.FinMap as map
 use Rattle.std.proofs.Common.{refl}
-use Rattle.std.proofs.Props.{props}
 use Rattle.sl_model.specs.declared.run_state.RunState.{RunState}
 use Rattle.sl_model.specs.declared.run_state.RunState.TheVariants.{Running, Exited}
 use Rattle.sl_model.specs.Pages.{Pages}
 use Rattle.sl_model.specs.State.{State}
-use Rattle.epoch_run.specs.Opened.{IsOpened}
-
-pub IsOpened-prop : (s : State) → IsProp (IsOpened s)
-IsOpened-prop s = Prim.hlevel props
 
 -- ---- states have one proof that they are equal, since a state is the tuple of its fields
 

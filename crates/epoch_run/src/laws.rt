@@ -1,45 +1,24 @@
 //! Laws of epochs, each the contract of a function that does nothing. They hold for every recording, also for one whose
-//! checkpoints no run ever had.
+//! checkpoints no run ever had, and for every opening state.
 
-ghost use Rattle.std.specs.Prelude.{◌≡◌, ℕ, List, Ok};
-ghost use Rattle.std.specs.List.{AllByRecursion};
-ghost use Rattle.sl_model.specs.State.{State, IsState, Fits};
+ghost use Rattle.std.specs.Prelude.{◌≡◌, ℕ, List};
+ghost use Rattle.sl_model.specs.State.{State, IsOpening};
 ghost use Rattle.rec_format.specs.declared.recording.Recording.{Recording};
 ghost use Rattle.rec_format.specs.Rules.{IsRecordingValue};
-ghost use Rattle.elf_image.specs.declared.image.Image.{Image};
-ghost use Rattle.elf_image.specs.Flat.{flat_image};
-ghost use Rattle.replay.specs.Opening.{opening};
-ghost use Rattle.replay.specs.Run.{Goes, onward};
 ghost use Rattle.replay.specs.Breaks.{first_break};
-ghost use Rattle.rec_format.specs.Recorded.{end_place, recorded_state};
+ghost use Rattle.rec_format.specs.Recorded.{end_place};
 ghost use Rattle.epoch_cut.specs.Places.{IsCutting};
 ghost use Rattle.epoch_run.specs.Records.{Tracers, records};
 ghost use Rattle.epoch_run.specs.Epochs.{epoch_break, epoch_records};
-ghost use Rattle.epoch_run.specs.Opened.{IsOpened, IsInMemory};
 ghost use Rattle.epoch_run.specs.EpochLaws.{BreaksJoin, RecordsJoin, StatesJoin, FirstBrokeIsFirst, AllRanAreTheRun, StartsOnTheRun, LeastBreakIsFirst, BreaksWithTheRun, RecordsOfTheRun, ComesToTheEnd};
-
-/// The laws below speak of every program that is opened so: of each whose image lies in memory, and so of each flat image
-/// that is accepted.
-pub fn programs_open_so()
-    ensures image { (image : Image) (args : List (List ℕ)) → AllByRecursion IsInMemory image.segments → IsOpened (opening image args) }
-    ensures flat { (address : ℕ) (bytes : List ℕ) (image : Image) (args : List (List ℕ)) → flat_image address bytes ≡ Ok image → IsOpened (opening image args) }
-{}
-
-/// Memory and heap are laid out as a program's in the opening state of a flat image; they stay so at every instruction of
-/// a replay, and are so in every state that a checkpoint records, also in one that no run ever had.
-pub fn runs_fit()
-    ensures opening { (address : ℕ) (bytes : List ℕ) (image : Image) (args : List (List ℕ)) → flat_image address bytes ≡ Ok image → Fits (opening image args) }
-    ensures kept { (rec : Recording) (s t : State) → IsState s → Fits s → onward rec s ≡ Goes t → Fits t }
-    ensures recorded { (rec : Recording) (opened : State) (k : ℕ) → IsRecordingValue rec → IsOpened opened → Fits opened → Fits (recorded_state rec opened k) }
-{}
 
 /// An epoch that is cut in two breaks where its first part does, and else where its second part does. Where the first
 /// part does not break, it comes to the state that is recorded there, and its records come first and then those of the
 /// second.
 pub fn epochs_join()
-    ensures breaks { (rec : Recording) (opened : State) → IsRecordingValue rec → IsOpened opened → BreaksJoin rec opened }
-    ensures records { (rec : Recording) (opened : State) (tracers : Tracers) → IsRecordingValue rec → IsOpened opened → RecordsJoin rec opened tracers }
-    ensures states { (rec : Recording) (opened : State) → IsRecordingValue rec → IsOpened opened → StatesJoin rec opened }
+    ensures breaks { (rec : Recording) (opened : State) → IsRecordingValue rec → IsOpening opened → BreaksJoin rec opened }
+    ensures records { (rec : Recording) (opened : State) (tracers : Tracers) → IsRecordingValue rec → IsOpening opened → RecordsJoin rec opened tracers }
+    ensures states { (rec : Recording) (opened : State) → IsRecordingValue rec → IsOpening opened → StatesJoin rec opened }
 {}
 
 /// The epoch from the opening state to the end is the one run.
@@ -50,30 +29,30 @@ pub fn one_epoch_is_the_run()
 
 /// Where no epoch of a cutting breaks before it, an epoch starts at the state that the run has there.
 pub fn epochs_start_on_the_run()
-    ensures { (rec : Recording) (opened : State) (places : List ℕ) → IsRecordingValue rec → IsOpened opened → IsCutting (end_place rec) places → StartsOnTheRun rec opened places }
+    ensures { (rec : Recording) (opened : State) (places : List ℕ) → IsRecordingValue rec → IsOpening opened → IsCutting (end_place rec) places → StartsOnTheRun rec opened places }
 {}
 
 /// The least epoch of a cutting with a break has the first break of the run, and no epoch breaks exactly where the run
 /// does not.
 pub fn least_break_is_first()
-    ensures first { (rec : Recording) (opened : State) (places : List ℕ) → IsRecordingValue rec → IsOpened opened → IsCutting (end_place rec) places → LeastBreakIsFirst rec opened places }
-    ensures none { (rec : Recording) (opened : State) (places : List ℕ) → IsRecordingValue rec → IsOpened opened → IsCutting (end_place rec) places → BreaksWithTheRun rec opened places }
+    ensures first { (rec : Recording) (opened : State) (places : List ℕ) → IsRecordingValue rec → IsOpening opened → IsCutting (end_place rec) places → LeastBreakIsFirst rec opened places }
+    ensures none { (rec : Recording) (opened : State) (places : List ℕ) → IsRecordingValue rec → IsOpening opened → IsCutting (end_place rec) places → BreaksWithTheRun rec opened places }
 {}
 
 /// Where no epoch of a cutting breaks, their records in order are those of the run.
 pub fn records_are_those_of_the_run()
-    ensures { (rec : Recording) (opened : State) (tracers : Tracers) (places : List ℕ) → IsRecordingValue rec → IsOpened opened → IsCutting (end_place rec) places → RecordsOfTheRun rec opened tracers places }
+    ensures { (rec : Recording) (opened : State) (tracers : Tracers) (places : List ℕ) → IsRecordingValue rec → IsOpening opened → IsCutting (end_place rec) places → RecordsOfTheRun rec opened tracers places }
 {}
 
 /// The same by the values of the epochs: the first that broke has the first break of the run; and where all ran, the run
 /// does not break, and what they left in order is what the run leaves.
 pub fn values_are_the_run()
-    ensures broke { (rec : Recording) (opened : State) (tracers : Tracers) (places : List ℕ) → IsRecordingValue rec → IsOpened opened → IsCutting (end_place rec) places → FirstBrokeIsFirst rec opened tracers places }
-    ensures ran { (rec : Recording) (opened : State) (tracers : Tracers) (places : List ℕ) → IsRecordingValue rec → IsOpened opened → IsCutting (end_place rec) places → AllRanAreTheRun rec opened tracers places }
+    ensures broke { (rec : Recording) (opened : State) (tracers : Tracers) (places : List ℕ) → IsRecordingValue rec → IsOpening opened → IsCutting (end_place rec) places → FirstBrokeIsFirst rec opened tracers places }
+    ensures ran { (rec : Recording) (opened : State) (tracers : Tracers) (places : List ℕ) → IsRecordingValue rec → IsOpening opened → IsCutting (end_place rec) places → AllRanAreTheRun rec opened tracers places }
 {}
 
 /// A run that does not break comes to the recorded end, with the count, the program counter and the registers that are
 /// recorded there.
 pub fn runs_end_as_recorded()
-    ensures { (rec : Recording) (opened : State) → IsRecordingValue rec → IsOpened opened → ComesToTheEnd rec opened }
+    ensures { (rec : Recording) (opened : State) → IsRecordingValue rec → IsOpening opened → ComesToTheEnd rec opened }
 {}

@@ -13,8 +13,7 @@ mod segment;
 pub use epoch::{PlanRuns, run_epoch};
 pub use laws::{
     epochs_join, epochs_start_on_the_run, least_break_is_first, one_epoch_is_the_run,
-    programs_open_so, records_are_those_of_the_run, runs_end_as_recorded, runs_fit,
-    values_are_the_run,
+    records_are_those_of_the_run, runs_end_as_recorded, values_are_the_run,
 };
 pub use plan::{Plan, Worker};
 pub use running::run_between;

@@ -7,8 +7,7 @@ ghost use Rattle.replay.specs.Opening.{opening};
 ghost use Rattle.checkpoints.specs.RecordedRun.{opened_of};
 ghost use Rattle.epoch_cut.specs.Places.{IsCutting};
 ghost use Rattle.epoch_run.specs.EpochLaws.{epochs_of};
-ghost use Rattle.epoch_run.specs.Opened.{IsOpened};
-ghost use Rattle.epoch_run.specs.OneProof.{states-set, IsOpened-prop};
+ghost use Rattle.epoch_run.specs.OneProof.{states-set};
 
 use checkpoints::Checkpoints;
 use elf_image::Image;
@@ -32,7 +31,6 @@ pub struct Plan {
     pub address: u32,
     ghost no_calls: { checkpoints.rec.calls ≡ [] },
     ghost loaded: { opened_of checkpoints ≡ opening image checkpoints.rec.args } by { states-set (opened_of checkpoints) (opening image checkpoints.rec.args) },
-    ghost opens: { IsOpened (opened_of checkpoints) } by { IsOpened-prop (opened_of checkpoints) },
     ghost cuts: { IsCutting (end_place checkpoints.rec) cutting },
 }
 

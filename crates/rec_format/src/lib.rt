@@ -5,6 +5,7 @@ mod calls;
 mod checkpoints;
 mod cursor;
 mod fault;
+mod laws;
 mod limits;
 mod listings;
 mod reading;
@@ -13,6 +14,7 @@ mod size;
 mod writing;
 
 pub use fault::{RecCause, RecFault, TooLarge};
+pub use laws::recorded_states_fit;
 pub use reading::{read_recording, spelled_apart};
 pub use recording::{CheckpointData, ListedPage, Recording};
 pub use writing::write_recording;

@@ -1,2 +1,3 @@
 pub mod Onward
 mod AtEnd
+pub mod InRun

@@ -15,6 +15,7 @@ use Rattle.std.proofs.lemmas.Option.{slice_get-get_or, slice_get_past, slice_get
 use Rattle.sl_model.specs.Pages.{Pages, IsPage, ArePages, byte_at, bytes_at, set_byte, set_bytes, from_bytes, low_bytes, load_at, store_at}
 use Rattle.sl_model.specs.Stores.{IsElsewhere, IsStored}
 use Rattle.sl_model.specs.PagesLaws.{AreWhole, load_at-suc, is_some-bytes_at, is_some-set_bytes, get-set_byte_other, length-low_bytes, All-low_bytes}
+use Rattle.sl_model.proofs.WholePages.{AreWhole-set_bytes}
 
 -- ---- what is loaded
 
@@ -258,6 +259,12 @@ pub ArePages-stored : (pages : Pages) (address width value : ℕ) (after : Pages
 ArePages-stored pages address width value after done are =
     let is = stored pages address width value after done in
     subst ArePages is.set (ArePages-set_bytes pages address (low_bytes width value) are (All-low_bytes width value))
+
+-- whole pages stay whole
+pub AreWhole-stored : (pages : Pages) (address width value : ℕ) (after : Pages) → store_at pages address width value ≡ Some after → AreWhole pages → AreWhole after
+AreWhole-stored pages address width value after done whole =
+    let is = stored pages address width value after done in
+    subst AreWhole is.set (AreWhole-set_bytes pages address (low_bytes width value) whole)
 
 pub IsStored-stored : (pages : Pages) (address width value : ℕ) (after : Pages) → store_at pages address width value ≡ Some after → IsStored address width value pages after
 IsStored-stored pages address width value after done = record {

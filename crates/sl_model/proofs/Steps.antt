@@ -10,12 +10,13 @@ use Rattle.sl_model.specs.declared.instr.LoadOp.{LoadOp}
 use Rattle.sl_model.specs.declared.instr.Instr.{Instr}
 use Rattle.sl_model.specs.declared.instr.Instr.TheVariants.{Lui, Auipc, Jal, Jalr, Branch, Load, Store, Immediate, Shift, Register, Multiply, Fence, Ecall, Ebreak}
 use Rattle.sl_model.specs.Pages.{Pages, ArePages, load_at, store_at}
+use Rattle.sl_model.specs.PagesLaws.{AreWhole}
 use Rattle.sl_model.specs.Words.{IsWord, HasBits, meaning}
 use Rattle.sl_model.specs.Arithmetic.{word_add, branch_word, is_taken, load_width, load_value, store_width, upper_word, immediate_word, immediate_value, shift_value, register_value, multiply_value, jump_word}
 use Rattle.sl_model.specs.State.{State, IsState, register, set_register}
 use Rattle.sl_model.specs.Step.{Next, Stepped, Called, Trapped, step, execute, execute_word, execute_fetched, put_register, gone_to, after, even, address, jump, branch, pass, loaded, stored}
 use Rattle.sl_model.proofs.Meanings.{meaning_has}
-use Rattle.sl_model.proofs.Memory.{load_at-small, ArePages-stored, is_some-stored}
+use Rattle.sl_model.proofs.Memory.{load_at-small, ArePages-stored, is_some-stored, AreWhole-stored}
 use Rattle.sl_model.proofs.Values.{IsWord-immediate, IsWord-immediate_value, IsWord-shift_value, IsWord-register_value, IsWord-multiply_value, IsWord-load_value}
 
 -- ---- what an instruction may change: registers but x0, bytes of memory, pc, and the count by one
@@ -30,6 +31,7 @@ pub record IsNext (s t : State) : Type 0 where
   pub next_call : t.next_call ≡ s.next_call
   pub status : t.status ≡ s.status
   pub mapped : (number : ℕ) → is_some (get t.pages number) ≡ is_some (get s.pages number)
+  pub whole : AreWhole s.pages → AreWhole t.pages
 
 abbrev LeadsOn : State → Next → Type 0
 LeadsOn s (Stepped t) = IsNext s t
@@ -62,13 +64,14 @@ IsNext-register s rd value pc = record {
   next_call = refl;
   status = refl;
   mapped = λ number. refl;
+  whole = λ whole. whole;
 }
 
 pub IsNext-place : (s : State) (pc : ℕ) → IsNext s (gone_to s pc)
-IsNext-place s pc = record { count = refl; registers = refl; zero = refl; layout = refl; brk = refl; brk_end = refl; next_call = refl; status = refl; mapped = λ number. refl }
+IsNext-place s pc = record { count = refl; registers = refl; zero = refl; layout = refl; brk = refl; brk_end = refl; next_call = refl; status = refl; mapped = λ number. refl; whole = λ whole. whole }
 
-IsNext-pages : (s : State) (pages : Pages) (pc : ℕ) → ((number : ℕ) → is_some (get pages number) ≡ is_some (get s.pages number)) → IsNext s (gone_to (record s { pages = pages }) pc)
-IsNext-pages s pages pc mapped = record { count = refl; registers = refl; zero = refl; layout = refl; brk = refl; brk_end = refl; next_call = refl; status = refl; mapped = mapped }
+IsNext-pages : (s : State) (pages : Pages) (pc : ℕ) → ((number : ℕ) → is_some (get pages number) ≡ is_some (get s.pages number)) → (AreWhole s.pages → AreWhole pages) → IsNext s (gone_to (record s { pages = pages }) pc)
+IsNext-pages s pages pc mapped whole = record { count = refl; registers = refl; zero = refl; layout = refl; brk = refl; brk_end = refl; next_call = refl; status = refl; mapped = mapped; whole = whole }
 
 either : (s : State) (b : Bool) (x y : Next) → LeadsOn s x → LeadsOn s y → LeadsOn s (if b then x else y)
 either s true x y first second = first
@@ -86,7 +89,7 @@ LeadsOn-loaded s op rd (Some n) = IsNext-register s rd _ _
 
 LeadsOn-stored : (s : State) (address width value : ℕ) (o : Option Pages) → store_at s.pages address width value ≡ o → LeadsOn s (stored s o)
 LeadsOn-stored s address width value None done = tt
-LeadsOn-stored s address width value (Some pages) done = IsNext-pages s pages (after s) (is_some-stored s.pages address width value pages done)
+LeadsOn-stored s address width value (Some pages) done = IsNext-pages s pages (after s) (is_some-stored s.pages address width value pages done) (AreWhole-stored s.pages address width value pages done)
 
 LeadsOn-chosen : (s : State) (taken : Bool) (target : ℕ) → LeadsOn s (if taken then branch s target else pass s)
 LeadsOn-chosen s taken target = either s taken (branch s target) (pass s) (LeadsOn-branch s target) (IsNext-place s (after s))

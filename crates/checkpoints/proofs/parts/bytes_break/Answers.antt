@@ -1,6 +1,6 @@
 use Rattle.std.proofs.Common.{◌≡◌, rules, ap, sym}
 use Rattle.rec_format.specs.Compared.{as_checkpoint_break}
-use Rattle.rec_format.proofs.Same.{bytes_diff-same}
+use Rattle.rec_format.proofs.SameState.{bytes_diff-same}
 use Rattle.checkpoints.proofs.parts.bytes_break.Goals as goal
 
 pub returns-then-eq : goal.returns-then-eq

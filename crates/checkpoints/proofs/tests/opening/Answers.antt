@@ -1,6 +1,5 @@
-use Rattle.std.proofs.Common.{refl}
 use Rattle.checkpoints.proofs.SmallMemory.{opening_is}
 use Rattle.checkpoints.proofs.tests.opening.Goals as goal
 
 pub returns : goal.returns
-returns c = opening_is _ refl refl refl c.in_ok-frames.ensures.pages c.in_ok-frames.ensures.few
+returns c = opening_is _ c.dirty_len-kept.ensures.kept.whole c.in_ok-frames.ensures.pages c.in_ok-frames.ensures.few

@@ -19,7 +19,7 @@ returns-in_err-run_segment-clause-value g c =
     let plan = c.args.plan.now in
     let kept = c.loop-j.invariant in
     rw (p.1, p.2)
-    (stops_there plan.checkpoints.rec (opened_of plan.checkpoints) (tracers_of plan) c.args.a c.loop-j.j c.loop-j.records.items plan.checkpoints.is_value plan.opens kept.from kept.so_far c.args.b c.in_err-run_segment.field-0.0 (omega arith) c.requires.within c.in_err-run_segment.ensures.first)
+    (stops_there plan.checkpoints.rec (opened_of plan.checkpoints) (tracers_of plan) c.args.a c.loop-j.j c.loop-j.records.items plan.checkpoints.is_value plan.checkpoints.opens kept.from kept.so_far c.args.b c.in_err-run_segment.field-0.0 (omega arith) c.requires.within c.in_err-run_segment.ensures.first)
 
 pub loop-j-preserved : goal.loop-j-preserved
 loop-j-preserved g c =
@@ -27,7 +27,7 @@ loop-j-preserved g c =
     let within = c.requires.within in
     let plan = c.args.plan.now in
     record {
-      so_far = goes_further plan.checkpoints.rec (opened_of plan.checkpoints) (tracers_of plan) c.args.a c.loop-j.j c.loop-j.records.items plan.checkpoints.is_value plan.opens kept.from kept.so_far _ (omega arith) c.in_ok-run_segment.ensures.first c.in_ok-run_segment.ensures.records;
+      so_far = goes_further plan.checkpoints.rec (opened_of plan.checkpoints) (tracers_of plan) c.args.a c.loop-j.j c.loop-j.records.items plan.checkpoints.is_value plan.checkpoints.opens kept.from kept.so_far _ (omega arith) c.in_ok-run_segment.ensures.first c.in_ok-run_segment.ensures.records;
       state = c.in_ok-run_segment.ensures.state;
       from = omega (arith, kept.from);
       steps = more_steps plan.checkpoints.rec c.args.a c.loop-j.j _ _ _ plan.checkpoints.is_value (omega arith) kept.steps c.run_segment.ensures.steps;

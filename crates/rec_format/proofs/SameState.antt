@@ -4,30 +4,23 @@ use Rattle.std.specs.Option.{option_or}
 use Rattle.std.specs.List.{range_with_len}
 use Rattle.std.specs.Cmp.{nat_cmp_total}
 use Rattle.std.specs.FinMap.{get, same_map, nat_cmp-IsAntisymmetric}
-use Rattle.std.proofs.Common.{◌≡◌, ℕ, zero, suc, ◌+◌, ◌/◌, ◌%◌, ◌<◌, ◌≤◌, Bool, true, false, cond, List, [], ◌∷◌, length, drop, Option, Some, None, inl, inr, ⊎_elim, refl, sym, ap, subst, ◌∙◌, ◌⊎◌, arith, eqb-true}
+use Rattle.std.proofs.Common.{◌≡◌, ℕ, zero, suc, ◌+◌, ◌/◌, ◌%◌, ◌<◌, ◌≤◌, Bool, true, false, cond, List, [], ◌∷◌, length, drop, Option, Some, None, inl, inr, ⊎_elim, refl, sym, ap, subst, ◌∙◌, ◌⊎◌, arith, eqb-true, eq-eqb}
 use Rattle.std.proofs.lemmas.Bool.{or_cases, and_parts, ltb-true, cases_eq, cases_lt}
 use Rattle.sl_model.specs.declared.run_state.RunState.TheVariants.{Running}
-use Rattle.sl_model.specs.Pages.{Pages}
-use Rattle.sl_model.specs.State.{State}
+use Rattle.sl_model.specs.Pages.{Pages, IsPage}
+use Rattle.sl_model.specs.State.{State, IsOpening}
+use Rattle.call_log.proofs.Options.{first_none, second_none}
 use Rattle.rec_format.specs.Rules.{IsRecordingValue}
 use Rattle.rec_format.specs.declared.recording.Recording.{Recording}
 use Rattle.rec_format.specs.declared.recording.CheckpointData.{CheckpointData}
 use Rattle.rec_format.specs.Recorded.{recorded_page, recorded_end, recorded_pages, recorded_state_of, recorded_state, recorded_count, checkpoint_at}
 use Rattle.rec_format.specs.Compared.{PartDiff, part_diff, parts_diff, bytes_diff, page_diff, pages_diff, PAGE_NUMBERS, machine_diff, checkpoint_diff}
-use Rattle.epoch_run.specs.Opened.{IsOpened}
 use Rattle.sl_model.proofs.Mapping.{is_among}
-use Rattle.epoch_run.proofs.InRun.{IsInRun, IsInRun-opened, is_mapped}
-use Rattle.epoch_run.proofs.Recorded.{get-recorded_pages, length-recorded_page, IsCheckpoint-at}
+use Rattle.rec_format.proofs.InRun.{IsInRun, IsInRun-opened, is_mapped}
+use Rattle.rec_format.proofs.Listed.{IsCheckpoint-at}
+use Rattle.rec_format.proofs.RecordedStates.{get-recorded_pages, length-recorded_page}
 
 -- ---- where nothing differs
-
-pub first_none : {A : Type 0} (x y : Option A) → option_or x y ≡ None → x ≡ None
-first_none None y none = refl
-first_none (Some x) y none = none
-
-second_none : {A : Type 0} (x y : Option A) → option_or x y ≡ None → y ≡ None
-second_none None y none = none
-second_none (Some x) y none = absurd cc
 
 abbrev told : ℕ → ℕ → ℕ → ℕ → Option PartDiff
 told part address recorded replayed = Some (record { part = part; address = address; recorded = recorded; replayed = replayed })
@@ -47,6 +40,13 @@ same_parts part (x ∷ xs) (y ∷ ys) long none =
     let here = same_part part x y (first_none (part_diff part x y) (parts_diff (part + 1) xs ys) none) in
     let rest = same_parts (part + 1) xs ys (omega arith) (second_none (part_diff part x y) (parts_diff (part + 1) xs ys) none) in
     cc
+
+itself : (n : ℕ) → (n == n) ≡ true
+itself n = eq-eqb n n refl
+
+pub bytes_diff-same : (address : ℕ) (bytes : List ℕ) → bytes_diff address bytes bytes ≡ None
+bytes_diff-same address [] = refl
+bytes_diff-same address (b ∷ bs) = rw (itself b) (bytes_diff-same (address + 1) bs)
 
 same_bytes_if : (b : Bool) (address x y : ℕ) (xs ys : List ℕ) → (x == y) ≡ b → (bytes_diff (address + 1) xs ys ≡ None → xs ≡ ys) → (if b then bytes_diff (address + 1) xs ys else told 35 address x y) ≡ None → x ∷ xs ≡ y ∷ ys
 same_bytes_if true address x y xs ys is rest none =
@@ -132,15 +132,15 @@ same_page opened rec k number None long whole none = refl
 same_page opened rec k number (Some bytes) long whole none = ap Some (sym (same_bytes (number * 4096) (recorded_page opened rec k number) bytes (long ∙ sym whole) none))
 
 -- pages of a program have numbers below 2 ^ 20
-below_all : (opened : State) (brk_end number : ℕ) → IsOpened opened → brk_end ≤ opened.layout.heap_limit → is_mapped opened brk_end number ≡ true → number < 2 ^ 20
+below_all : (opened : State) (brk_end number : ℕ) → IsOpening opened → brk_end ≤ opened.layout.heap_limit → is_mapped opened brk_end number ≡ true → number < 2 ^ 20
 below_all opened brk_end number is to mapped = ⊎_elim
-    (λ (stood : is_some (get opened.pages number) ≡ true). of (get opened.pages number) stood (is.pages number))
+    (λ (stood : is_some (get opened.pages number) ≡ true). of (get opened.pages number) stood (is.state.pages number))
     (λ (heap : is_among (opened.layout.brk_start / 4096) (brk_end / 4096) number ≡ true).
     let below : number < brk_end / 4096 = ltb-true number (brk_end / 4096) (and_parts (nat_le (opened.layout.brk_start / 4096) number) (nat_lt number (brk_end / 4096)) heap).1 in
-    omega (arith, is.below_end))
+    omega (arith, is.fits.layout.below_end))
     (or_cases (is_some (get opened.pages number)) (is_among (opened.layout.brk_start / 4096) (brk_end / 4096) number) mapped)
   where
-    of : (page : Option (List ℕ)) → is_some page ≡ true → IfSome page (λ p. (number < 2 ^ 20) × (length p ≡ 4096)) → number < 2 ^ 20
+    of : (page : Option (List ℕ)) → is_some page ≡ true → IfSome page (λ p. (number < 2 ^ 20) × IsPage p) → number < 2 ^ 20
     of None some is = absurd cc
     of (Some page) some is = is.0
 
@@ -151,7 +151,7 @@ absent (Some page) other true is never = absurd (never refl)
 absent (Some page) other false is never = absurd cc
 
 -- each page of the state is the recorded one
-each_page : (rec : Recording) (opened : State) (k : ℕ) (s : State) (number : ℕ) → IsRecordingValue rec → IsOpened opened → IsInRun opened s → pages_diff opened.pages rec k s PAGE_NUMBERS ≡ None
+each_page : (rec : Recording) (opened : State) (k : ℕ) (s : State) (number : ℕ) → IsRecordingValue rec → IsOpening opened → IsInRun opened s → pages_diff opened.pages rec k s PAGE_NUMBERS ≡ None
     → get s.pages number ≡ cond (is_mapped opened s.brk_end number) (Some (recorded_page opened.pages rec k number)) None
 each_page rec opened k s number is opens runs none = with_count (2 ^ 20) refl
   where
@@ -165,10 +165,10 @@ each_page rec opened k s number is opens runs none = with_count (2 ^ 20) refl
         absurd (omega arith)))
         (cases_lt number count)
 
-same_pages : (rec : Recording) (opened : State) (k : ℕ) (s : State) → IsRecordingValue rec → IsOpened opened → IsInRun opened s → pages_diff opened.pages rec k s PAGE_NUMBERS ≡ None
+same_pages : (rec : Recording) (opened : State) (k : ℕ) (s : State) → IsRecordingValue rec → IsOpening opened → IsInRun opened s → pages_diff opened.pages rec k s PAGE_NUMBERS ≡ None
     → s.pages ≡ recorded_pages rec opened k s.brk_end
 same_pages rec opened k s is opens runs none = same_map nat_cmp_total nat_cmp-IsAntisymmetric s.pages (recorded_pages rec opened k s.brk_end)
-    (λ number. each_page rec opened k s number is opens runs none ∙ sym (get-recorded_pages rec opened k s.brk_end number opens.start runs.end_from))
+    (λ number. each_page rec opened k s number is opens runs none ∙ sym (get-recorded_pages rec opened k s.brk_end number opens.fits.layout.start runs.end_from))
 
 -- ---- the whole state
 
@@ -176,7 +176,7 @@ same_pages rec opened k s is opens runs none = same_map nat_cmp_total nat_cmp-Is
 end_stays : (opened : State) (brk_end : ℕ) → brk_end % 4096 ≡ 0 → opened.layout.brk_start ≤ brk_end → brk_end ≤ opened.layout.heap_limit → recorded_end opened brk_end ≡ brk_end
 end_stays opened brk_end page from to = omega arith
 
-pub same_state : (rec : Recording) (opened : State) (k : ℕ) (s : State) → IsRecordingValue rec → IsOpened opened → IsInRun opened s → 0 < k → s.status ≡ Running → s.count ≡ recorded_count rec k
+pub same_state : (rec : Recording) (opened : State) (k : ℕ) (s : State) → IsRecordingValue rec → IsOpening opened → IsInRun opened s → 0 < k → s.status ≡ Running → s.count ≡ recorded_count rec k
     → checkpoint_diff opened.pages rec k (checkpoint_at rec k) s ≡ None → s ≡ recorded_state rec opened k
 unfolding checkpoint_diff recorded_state_of
 same_state rec opened zero s is opens runs some status count none = absurd (omega arith)

@@ -1,25 +1,16 @@
--- What every state of a run has, from the opening state on: 32 registers with x0 being 0, and as mapped pages those of the
--- opening state and of the heap up to its mapped end.
-use Rattle.std.specs.Prelude.{if◌then◌else◌, ◌||◌, nat_le, nat_eq, ◌==◌, max, IfSome, is_some, slice_get, slice_set, slice_index}
-use Rattle.std.specs.Option.{option_map}
+-- What every instruction of a replay keeps, calls with it.
+use Rattle.std.specs.Prelude.{if◌then◌else◌, ◌||◌, nat_le, ◌==◌, max, is_some, slice_get}
 use Rattle.std.specs.FinMap.{get}
-use Rattle.std.proofs.Common.{◌≡◌, ℕ, ◌+◌, ◌-◌, ◌/◌, ◌%◌, ◌^◌, ◌<◌, ◌≤◌, Bool, true, false, List, length, Option, Some, None, refl, sym, ap, subst, ◌∙◌, arith, le_refl}
-use Rattle.std.proofs.lemmas.Bool.{and_parts, leb-true, eqb-false}
+use Rattle.std.proofs.Common.{◌≡◌, ℕ, ◌+◌, ◌-◌, ◌/◌, ◌%◌, ◌≤◌, Bool, true, false, List, Option, Some, None, refl, sym, ap, subst, ◌∙◌, arith, le_refl}
+use Rattle.std.proofs.lemmas.Bool.{and_parts, leb-true}
 use Rattle.std.proofs.lemmas.Bool.Decides.{nat_tests}
-use Rattle.std.proofs.lemmas.List.{get_or-set_other}
-use Rattle.std.proofs.Math.ListN.{length-set}
-use Rattle.sl_model.specs.declared.instr.Instr.{Instr}
-use Rattle.sl_model.specs.declared.instr.Instr.TheVariants.{Lui, Auipc, Jal, Jalr, Branch, Load, Store, Immediate, Shift, Register, Multiply, Fence, Ecall, Ebreak}
-use Rattle.sl_model.specs.declared.instr.LoadOp.{LoadOp}
 use Rattle.sl_model.specs.declared.layout.Layout.{Layout}
 use Rattle.sl_model.specs.declared.run_state.RunState.{RunState}
 use Rattle.sl_model.specs.declared.run_state.RunState.TheVariants.{Running, Exited}
-use Rattle.sl_model.specs.Pages.{set_bytes, load_at, store_at}
-use Rattle.sl_model.specs.PagesLaws.{AreWhole, is_some-set_bytes}
-use Rattle.sl_model.specs.Words.{meaning}
-use Rattle.sl_model.specs.Arithmetic.{word_add, branch_word, is_taken}
-use Rattle.sl_model.specs.State.{State, register, set_register}
-use Rattle.sl_model.specs.Step.{Next, Stepped, Called, Trapped, step, execute, execute_word, execute_fetched, put_register, gone_to, after, jump, branch, pass, loaded, stored}
+use Rattle.sl_model.specs.Pages.{set_bytes}
+use Rattle.sl_model.specs.PagesLaws.{is_some-set_bytes}
+use Rattle.sl_model.specs.State.{State, IsState, Fits, IsOpening, register}
+use Rattle.sl_model.specs.Step.{Next, Stepped, Called, Trapped, step, put_register, gone_to, after}
 use Rattle.call_log.specs.declared.ask.Ask.{Ask}
 use Rattle.call_log.specs.declared.ask.CallDiff.{CallDiff}
 use Rattle.call_log.specs.declared.entry.CallEntry.{CallEntry}
@@ -30,170 +21,13 @@ use Rattle.replay.specs.Calls.{call_of, ask_of, exited, answered, is_outside, da
 use Rattle.replay.specs.Run.{Onward, Goes, Breaks, onward, onward_in, stepped, asked, called, matched}
 use Rattle.sl_base.specs.declared.call.Call.{Call}
 use Rattle.sl_base.specs.World.{write_number}
-use Rattle.epoch_run.specs.Opened.{IsOpened}
 use Rattle.sl_model.proofs.Mapping.{is_among, get-map_pages, is_some-or_zeros, AreWhole-map_pages}
 use Rattle.sl_model.proofs.WholePages.{AreWhole-set_bytes}
-
--- the pages of a program that was opened so, with this end of the mapped heap
-abbrev pub is_mapped : State → ℕ → ℕ → Bool
-is_mapped opened brk_end number = is_some (get opened.pages number) || is_among (opened.layout.brk_start / 4096) (brk_end / 4096) number
-
-pub record IsInRun (opened s : State) : Type 0 where
-  pub registers : length s.x ≡ 32
-  pub zero : register s 0 ≡ 0
-  pub whole : AreWhole s.pages
-  pub layout : s.layout ≡ opened.layout
-  pub end_page : s.brk_end % 4096 ≡ 0
-  pub end_from : opened.layout.brk_start ≤ s.brk_end
-  pub end_to : s.brk_end ≤ opened.layout.heap_limit
-  pub mapped : (number : ℕ) → is_some (get s.pages number) ≡ is_mapped opened s.brk_end number
-
-no_heap : (opened : State) (number : ℕ) → opened.brk_end ≡ opened.layout.brk_start → is_some (get opened.pages number) ≡ is_mapped opened opened.brk_end number
-no_heap opened number same =
-    let none : is_among (opened.layout.brk_start / 4096) (opened.brk_end / 4096) number ≡ false = rw same (grind (arith, nat_tests)) in
-    rw none (or_none (is_some (get opened.pages number)))
-  where
-    or_none : (b : Bool) → b ≡ (b || false)
-    or_none true = refl
-    or_none false = refl
-
-whole_pages : (opened : State) → IsOpened opened → AreWhole opened.pages
-whole_pages opened is number = of (get opened.pages number) (is.pages number)
-  where
-    of : (page : Option (List ℕ)) → IfSome page (λ p. (number < 2 ^ 20) × (length p ≡ 4096)) → IfSome page (λ p. length p ≡ 4096)
-    of None is = tt
-    of (Some page) is = is.1
-
-pub IsInRun-opened : (opened : State) → IsOpened opened → IsInRun opened opened
-IsInRun-opened opened is = record {
-  registers = is.registers;
-  zero = is.zero;
-  whole = whole_pages opened is;
-  layout = refl;
-  end_page = rw is.heap is.start;
-  end_from = omega (arith, is.heap);
-  end_to = omega (arith, is.heap, is.ordered);
-  mapped = λ number. no_heap opened number is.heap;
-}
-
--- ---- instructions but calls
-
--- what an instruction may change
-pub record IsNext (s t : State) : Type 0 where
-  pub count : t.count ≡ s.count + 1
-  pub registers : length t.x ≡ length s.x
-  pub zero : register t 0 ≡ register s 0
-  pub whole : AreWhole s.pages → AreWhole t.pages
-  pub layout : t.layout ≡ s.layout
-  pub brk_end : t.brk_end ≡ s.brk_end
-  pub mapped : (number : ℕ) → is_some (get t.pages number) ≡ is_some (get s.pages number)
-
-abbrev LeadsOn : State → Next → Type 0
-LeadsOn s (Stepped t) = IsNext s t
-LeadsOn s Called = Unit {0}
-LeadsOn s (Trapped number) = Unit {0}
-
-length-set_register : (x : List ℕ) (r value : ℕ) → length (set_register x r value) ≡ length x
-length-set_register x r value = chosen (nat_eq r 0)
-  where
-    chosen : (b : Bool) → length (if b then x else slice_set x r value) ≡ length x
-    chosen true = refl
-    chosen false = length-set x r value
-
-zero-set_register : (x : List ℕ) (r value : ℕ) → slice_index (set_register x r value) 0 ≡ slice_index x 0
-zero-set_register x r value = chosen (nat_eq r 0) refl
-  where
-    chosen : (b : Bool) → nat_eq r 0 ≡ b → slice_index (if b then x else slice_set x r value) 0 ≡ slice_index x 0
-    chosen true is = refl
-    chosen false is = get_or-set_other x r 0 value 0 (λ same. eqb-false r 0 is (sym same))
-
-goes : (s : State) (rd value pc : ℕ) → IsNext s (gone_to (put_register s rd value) pc)
-goes s rd value pc = record {
-  count = refl;
-  registers = length-set_register s.x rd value;
-  zero = zero-set_register s.x rd value;
-  whole = λ whole. whole;
-  layout = refl;
-  brk_end = refl;
-  mapped = λ number. refl;
-}
-
-goes_plainly : (s : State) (pc : ℕ) → IsNext s (gone_to s pc)
-goes_plainly s pc = record { count = refl; registers = refl; zero = refl; whole = λ whole. whole; layout = refl; brk_end = refl; mapped = λ number. refl }
-
-goes_with_bytes : (s : State) (address : ℕ) (bytes : List ℕ) (pc : ℕ) → IsNext s (gone_to (record s { pages = set_bytes s.pages address bytes }) pc)
-goes_with_bytes s address bytes pc = record {
-  count = refl;
-  registers = refl;
-  zero = refl;
-  whole = AreWhole-set_bytes s.pages address bytes;
-  layout = refl;
-  brk_end = refl;
-  mapped = λ number. is_some-set_bytes s.pages address bytes number;
-}
-
-either : (s : State) (b : Bool) (x y : Next) → LeadsOn s x → LeadsOn s y → LeadsOn s (if b then x else y)
-either s true x y first second = first
-either s false x y first second = second
-
-LeadsOn-jump : (s : State) (rd target : ℕ) → LeadsOn s (jump s rd target)
-LeadsOn-jump s rd target = either s (nat_eq (target % 4) 0) _ _ (goes s rd (after s) target) tt
-
-LeadsOn-branch : (s : State) (target : ℕ) → LeadsOn s (branch s target)
-LeadsOn-branch s target = either s (nat_eq (target % 4) 0) _ _ (goes_plainly s target) tt
-
-LeadsOn-loaded : (s : State) (op : LoadOp) (rd : ℕ) (o : Option ℕ) → LeadsOn s (loaded s op rd o)
-LeadsOn-loaded s op rd None = tt
-LeadsOn-loaded s op rd (Some n) = goes s rd _ _
-
-LeadsOn-stored : (s : State) (address : ℕ) (bytes : List ℕ) (o : Option (List ℕ)) → LeadsOn s (stored s (option_map (λ _. set_bytes s.pages address bytes) o))
-LeadsOn-stored s address bytes None = tt
-LeadsOn-stored s address bytes (Some old) = goes_with_bytes s address bytes (after s)
-
-LeadsOn-chosen : (s : State) (taken : Bool) (target : ℕ) → LeadsOn s (if taken then branch s target else pass s)
-LeadsOn-chosen s taken target = either s taken (branch s target) (pass s) (LeadsOn-branch s target) (goes_plainly s (after s))
-
-LeadsOn-execute : (s : State) (instr : Instr) → LeadsOn s (execute s instr)
-unfolding execute store_at
-LeadsOn-execute s (Lui rd imm) = goes s rd _ _
-LeadsOn-execute s (Auipc rd imm) = goes s rd _ _
-LeadsOn-execute s (Jal rd offset) = LeadsOn-jump s rd _
-LeadsOn-execute s (Jalr rd rs1 offset) = LeadsOn-jump s rd _
-LeadsOn-execute s (Branch op rs1 rs2 offset) = LeadsOn-chosen s (is_taken op (register s rs1) (register s rs2)) (word_add s.pc (branch_word offset))
-LeadsOn-execute s (Load op rd rs1 offset) = LeadsOn-loaded s op rd _
-LeadsOn-execute s (Store op rs1 rs2 offset) = LeadsOn-stored s _ _ _
-LeadsOn-execute s (Immediate op rd rs1 imm) = goes s rd _ _
-LeadsOn-execute s (Shift op rd rs1 amount) = goes s rd _ _
-LeadsOn-execute s (Register op rd rs1 rs2) = goes s rd _ _
-LeadsOn-execute s (Multiply op rd rs1 rs2) = goes s rd _ _
-LeadsOn-execute s (Fence high rd) = goes_plainly s (after s)
-LeadsOn-execute s Ecall = tt
-LeadsOn-execute s Ebreak = tt
-
-LeadsOn-word : (s : State) (instr : Option Instr) → LeadsOn s (execute_word s instr)
-LeadsOn-word s None = tt
-LeadsOn-word s (Some instr) = LeadsOn-execute s instr
-
-LeadsOn-fetched : (s : State) (word : Option ℕ) → LeadsOn s (execute_fetched s word)
-LeadsOn-fetched s None = tt
-LeadsOn-fetched s (Some word) = LeadsOn-word s (meaning word)
-
-LeadsOn-step : (s : State) → LeadsOn s (step s)
-unfolding step
-LeadsOn-step s = either s (nat_eq (s.pc % 4) 0) _ _ (LeadsOn-fetched s (load_at s.pages s.pc 4)) tt
-
--- a state that differs so from one of the run is one of the run
-IsInRun-next : (opened s t : State) → IsInRun opened s → IsNext s t → IsInRun opened t
-IsInRun-next opened s t is next = record {
-  registers = next.registers ∙ is.registers;
-  zero = next.zero ∙ is.zero;
-  whole = next.whole is.whole;
-  layout = next.layout ∙ is.layout;
-  end_page = rw next.brk_end is.end_page;
-  end_from = rw next.brk_end is.end_from;
-  end_to = rw next.brk_end is.end_to;
-  mapped = λ number. next.mapped number ∙ is.mapped number ∙ ap (λ n. is_mapped opened n number) (sym next.brk_end);
-}
+use Rattle.sl_model.proofs.Steps.{IsNext-register, IsNext-place, IsNext-step}
+use Rattle.sl_model.proofs.Fitting.{Fits-grows}
+use Rattle.sl_model.proofs.Mapping.{is_among, get-map_pages, is_some-or_zeros, AreWhole-map_pages}
+use Rattle.sl_model.proofs.WholePages.{AreWhole-set_bytes}
+use Rattle.rec_format.proofs.InRun.{IsInRun, IsInRun-next, Grows-run, own_run}
 
 -- ---- calls
 
@@ -311,7 +145,7 @@ IsKept opened s (Breaks kind) = Unit {0}
 
 kept_exit : (opened s : State) → IsInRun opened s → GoesOn opened s (exited s)
 kept_exit opened s is = record {
-  in_run = IsInRun-status opened (gone_to s (after s)) (Exited (register s 10)) (IsInRun-next opened s (gone_to s (after s)) is (goes_plainly s (after s)));
+  in_run = IsInRun-status opened (gone_to s (after s)) (Exited (register s 10)) (IsInRun-next opened s (gone_to s (after s)) is (IsNext-place s (after s)));
   count = refl;
   end_grows = le_refl s.brk_end;
 }
@@ -321,7 +155,7 @@ kept_answer opened s entry limit is =
     let done : State = call_done s (call_of s) entry.bytes in
     let next : State = gone_to (put_register done 10 entry.result) (after s) in
     record {
-      in_run = IsInRun-next_call opened next (s.next_call + 1) (IsInRun-next opened done next (IsInRun-call opened s (call_of s) entry.bytes limit is) (goes done 10 entry.result (after s)));
+      in_run = IsInRun-next_call opened next (s.next_call + 1) (IsInRun-next opened done next (IsInRun-call opened s (call_of s) entry.bytes limit is) (IsNext-register done 10 entry.result (after s)));
       count = ap (λ n. n + 1) (count-call s (call_of s) entry.bytes);
       end_grows = end-call s (call_of s) entry.bytes;
     }
@@ -338,13 +172,15 @@ kept_asked : (rec : Recording) (opened s : State) (ask : Option Ask) → opened.
 kept_asked rec opened s None limit is = kept_exit opened s is
 kept_asked rec opened s (Some ask) limit is = kept_called opened s ask (slice_get rec.calls s.next_call) limit is
 
-kept_step : (rec : Recording) (opened s : State) (next : Next) → opened.layout.heap_limit % 4096 ≡ 0 → IsInRun opened s → LeadsOn s next → IsKept opened s (stepped rec s next)
-kept_step rec opened s (Stepped t) limit is leads = record { in_run = IsInRun-next opened s t is leads; count = leads.count; end_grows = omega (arith, leads.brk_end) }
-kept_step rec opened s Called limit is leads = kept_asked rec opened s (ask_of s) limit is
-kept_step rec opened s (Trapped number) limit is leads = tt
+kept_step : (rec : Recording) (opened s : State) (next : Next) → opened.layout.heap_limit % 4096 ≡ 0 → IsInRun opened s → step s ≡ next → IsKept opened s (stepped rec s next)
+kept_step rec opened s (Stepped t) limit is steps =
+    let next = IsNext-step s t steps in
+    record { in_run = IsInRun-next opened s t is next; count = next.count; end_grows = omega (arith, next.brk_end) }
+kept_step rec opened s Called limit is steps = kept_asked rec opened s (ask_of s) limit is
+kept_step rec opened s (Trapped number) limit is steps = tt
 
 kept_in : (rec : Recording) (opened s : State) (status : RunState) → opened.layout.heap_limit % 4096 ≡ 0 → IsInRun opened s → IsKept opened s (onward_in rec s status)
-kept_in rec opened s Running limit is = kept_step rec opened s (step s) limit is (LeadsOn-step s)
+kept_in rec opened s Running limit is = kept_step rec opened s (step s) limit is refl
 kept_in rec opened s (Exited code) limit is = tt
 
 kept : (rec : Recording) (opened s : State) → opened.layout.heap_limit % 4096 ≡ 0 → IsInRun opened s → IsKept opened s (onward rec s)
@@ -355,5 +191,11 @@ kept rec opened s limit is = kept_in rec opened s s.status limit is
 pub IsInRun-kept : (rec : Recording) (opened s t : State) → opened.layout.heap_limit % 4096 ≡ 0 → IsInRun opened s → onward rec s ≡ Goes t → GoesOn opened s t
 IsInRun-kept rec opened s t limit is goes = subst (IsKept opened s) goes (kept rec opened s limit is)
 
-pub IsInRun-onward : (rec : Recording) (opened s t : State) → IsOpened opened → IsInRun opened s → onward rec s ≡ Goes t → GoesOn opened s t
-IsInRun-onward rec opened s t opens is goes = IsInRun-kept rec opened s t opens.limit is goes
+pub IsInRun-onward : (rec : Recording) (opened s t : State) → IsOpening opened → IsInRun opened s → onward rec s ≡ Goes t → GoesOn opened s t
+IsInRun-onward rec opened s t opens is goes = IsInRun-kept rec opened s t opens.fits.layout.limit is goes
+
+-- an instruction of a replay leads from a state that fits to one that fits
+pub Fits-onward : (rec : Recording) (s t : State) → IsState s → Fits s → onward rec s ≡ Goes t → Fits t
+Fits-onward rec s t is fits goes =
+    let next = IsInRun-kept rec s s t fits.layout.limit (own_run s is fits) goes in
+    Fits-grows s t fits (Grows-run s t fits next.in_run next.end_grows)

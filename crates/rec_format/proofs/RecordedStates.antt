@@ -1,24 +1,24 @@
 -- The state that a checkpoint records: its pages, and that it is one that a run could have.
-use Rattle.std.specs.Prelude.{if◌then◌else◌, ◌||◌, ◌==◌, IfSome, is_some, unwrap_or, slice_get}
-use Rattle.std.specs.List.{AllByRecursion, flat_map}
+use Rattle.std.specs.Prelude.{if◌then◌else◌, ◌||◌, ◌==◌, IfSome, is_some, unwrap_or}
 use Rattle.std.specs.Option.{option_map}
 use Rattle.std.specs.FinMap.{get, insert, contains_key, gets}
-use Rattle.std.proofs.Common.{◌≡◌, ℕ, zero, suc, ◌+◌, ◌-◌, ◌/◌, ◌%◌, ◌≤◌, Bool, true, false, cond, List, [], ◌∷◌, ◌++◌, length, take, Option, Some, None, ⊎_elim, refl, sym, ap, subst, ◌∙◌, arith, eq-eqb, ne_eqb}
+use Rattle.std.proofs.Common.{◌≡◌, ℕ, zero, suc, ◌+◌, ◌-◌, ◌/◌, ◌%◌, ◌≤◌, Bool, true, false, cond, List, [], ◌∷◌, length, Option, Some, None, ⊎_elim, refl, sym, ap, subst, ◌∙◌, arith, eq-eqb, ne_eqb}
 use Rattle.std.proofs.lemmas.Bool.{cases_eq}
 use Rattle.std.proofs.lemmas.Grind.{common_steps}
 use Rattle.std.proofs.lemmas.List.{length-replicate}
 use Rattle.sl_model.specs.Pages.{Pages}
 use Rattle.sl_model.specs.PagesLaws.{AreWhole}
-use Rattle.sl_model.specs.State.{State}
-use Rattle.rec_format.specs.Rules.{IsRecordingValue, IsCheckpoint, IsListedPage}
+use Rattle.rec_format.specs.Rules.{IsRecordingValue}
 use Rattle.rec_format.specs.declared.recording.Recording.{Recording}
 use Rattle.rec_format.specs.declared.recording.CheckpointData.{CheckpointData}
 use Rattle.rec_format.specs.declared.recording.ListedPage.{ListedPage}
 use Rattle.sl_model.specs.Mapping.{zero_page, map_pages}
-use Rattle.rec_format.specs.Recorded.{all_checkpoints, listed_to, last_listing, recorded_page, recorded_end, put_listed, put_all_listed, recorded_pages, recorded_state_of, recorded_state, recorded_count, checkpoint_at}
-use Rattle.epoch_run.specs.Opened.{IsOpened}
+use Rattle.rec_format.specs.Recorded.{listed_to, last_listing, recorded_page, recorded_end, put_listed, put_all_listed, recorded_pages, recorded_state_of, recorded_state, recorded_count, checkpoint_at}
 use Rattle.sl_model.proofs.Mapping.{or_zeros, is_among, get-map_pages}
-use Rattle.epoch_run.proofs.InRun.{IsInRun, IsInRun-opened, is_mapped}
+use Rattle.sl_model.specs.State.{State, Fits, IsOpening}
+use Rattle.sl_model.proofs.Fitting.{Fits-grows}
+use Rattle.rec_format.proofs.Listed.{all_listed_to, length-last_listing, IsCheckpoint-at}
+use Rattle.rec_format.proofs.InRun.{IsInRun, IsInRun-opened, Grows-run, is_mapped}
 
 -- ---- listed pages in memory
 
@@ -89,24 +89,6 @@ get-recorded_pages rec opened k brk_end number aligned above =
 
 -- ---- their length
 
-all_append : {X : Type 0} (P : X → Type 0) (xs ys : List X) → AllByRecursion P xs → AllByRecursion P ys → AllByRecursion P (xs ++ ys)
-all_append P [] ys first second = second
-all_append P (x ∷ xs) ys first second = (first.0, all_append P xs ys first.1 second)
-
-all_listed : (cs : List CheckpointData) (k : ℕ) → AllByRecursion IsCheckpoint cs → AllByRecursion IsListedPage (flat_map (λ c. c.pages) (take k cs))
-all_listed cs zero all = tt
-all_listed [] (suc k) all = tt
-all_listed (c ∷ cs) (suc k) all = all_append IsListedPage c.pages (flat_map (λ c. c.pages) (take k cs)) all.0.each_page (all_listed cs k all.1)
-
-whole_if : (b : Bool) (first second : List ℕ) → length first ≡ 4096 → length second ≡ 4096 → length (if b then first else second) ≡ 4096
-whole_if true first second one two = one
-whole_if false first second one two = two
-
-length-last_listing : (bytes : List ℕ) (listed : List ListedPage) (number : ℕ) → length bytes ≡ 4096 → AllByRecursion IsListedPage listed → length (last_listing bytes listed number) ≡ 4096
-length-last_listing bytes [] number whole all = whole
-length-last_listing bytes (page ∷ listed) number whole all =
-    length-last_listing (if page.number == number then page.bytes else bytes) listed number (whole_if (page.number == number) page.bytes bytes all.0.bytes whole) all.1
-
 whole_or_zeros : (page : Option (List ℕ)) → IfSome page (λ p. length p ≡ 4096) → length (unwrap_or page zero_page) ≡ 4096
 whole_or_zeros None whole = length-replicate {A = ℕ} 4096 0
 whole_or_zeros (Some page) whole = whole
@@ -114,21 +96,9 @@ whole_or_zeros (Some page) whole = whole
 pub length-recorded_page : (rec : Recording) (opened : Pages) (k number : ℕ) → IsRecordingValue rec → AreWhole opened → length (recorded_page opened rec k number) ≡ 4096
 length-recorded_page rec opened k number is whole =
     length-last_listing (unwrap_or (get opened number) zero_page) (listed_to rec k) number (whole_or_zeros (get opened number) (whole number))
-    (all_listed (all_checkpoints rec) k (all_append IsCheckpoint rec.checkpoints (rec.last ∷ []) is.each_checkpoint (is.last, tt)))
+    (all_listed_to rec k is)
 
 -- ---- the state
-
-some_is : {X : Type 0} (P : X → Type 0) (xs : List X) (i : ℕ) → AllByRecursion P xs → IfSome (slice_get xs i) P
-some_is P [] i all = tt
-some_is P (x ∷ xs) zero all = all.0
-some_is P (x ∷ xs) (suc i) all = some_is P xs i all.1
-
-or_last_is : (rec : Recording) (o : Option CheckpointData) → IfSome o IsCheckpoint → IsCheckpoint rec.last → IsCheckpoint (unwrap_or o rec.last)
-or_last_is rec None it last = last
-or_last_is rec (Some c) it last = it
-
-pub IsCheckpoint-at : (rec : Recording) (k : ℕ) → IsRecordingValue rec → IsCheckpoint (checkpoint_at rec k)
-IsCheckpoint-at rec k is = or_last_is rec (slice_get rec.checkpoints (k - 1)) (some_is IsCheckpoint rec.checkpoints (k - 1) is.each_checkpoint) is.last
 
 whole_chosen : (b : Bool) (page : List ℕ) → length page ≡ 4096 → IfSome (cond b (Some page) None) (λ p. length p ≡ 4096)
 whole_chosen true page whole = whole
@@ -144,15 +114,15 @@ record IsEnd (opened : State) (brk_end : ℕ) : Type 0 where
   from : opened.layout.brk_start ≤ brk_end
   to : brk_end ≤ opened.layout.heap_limit
 
-is_end : (opened : State) (brk_end : ℕ) → IsOpened opened → IsEnd opened (recorded_end opened brk_end)
+is_end : (opened : State) (brk_end : ℕ) → IsOpening opened → IsEnd opened (recorded_end opened brk_end)
 is_end opened brk_end is =
-    let start = is.start in
-    let limit = is.limit in
-    let ordered = is.ordered in
+    let start = is.fits.layout.start in
+    let limit = is.fits.layout.limit in
+    let ordered = is.fits.layout.ordered in
     record { page = omega arith; from = omega arith; to = omega arith }
 
 -- every recorded state is one that a run could have
-pub IsInRun-recorded : (rec : Recording) (opened : State) (k : ℕ) → IsRecordingValue rec → IsOpened opened → IsInRun opened (recorded_state rec opened k)
+pub IsInRun-recorded : (rec : Recording) (opened : State) (k : ℕ) → IsRecordingValue rec → IsOpening opened → IsInRun opened (recorded_state rec opened k)
 unfolding recorded_state_of
 IsInRun-recorded rec opened zero is opens = IsInRun-opened opened opens
 IsInRun-recorded rec opened (suc k) is opens =
@@ -160,7 +130,7 @@ IsInRun-recorded rec opened (suc k) is opens =
     let brk_end : ℕ = recorded_end opened checkpoint.brk_end in
     let fits = is_end opened checkpoint.brk_end opens in
     let old = IsInRun-opened opened opens in
-    let pages = λ (number : ℕ). get-recorded_pages rec opened (suc k) brk_end number opens.start fits.from in
+    let pages = λ (number : ℕ). get-recorded_pages rec opened (suc k) brk_end number opens.fits.layout.start fits.from in
     record {
       registers = ap suc (IsCheckpoint-at rec (suc k) is).x.number;
       zero = refl;
@@ -172,7 +142,13 @@ IsInRun-recorded rec opened (suc k) is opens =
       mapped = λ number. ap is_some (pages number) ∙ some_chosen (is_mapped opened brk_end number) (recorded_page opened.pages rec (suc k) number);
     }
 
-pub count-recorded : (rec : Recording) (opened : State) (k : ℕ) → IsOpened opened → (recorded_state rec opened k).count ≡ recorded_count rec k
+pub count-recorded : (rec : Recording) (opened : State) (k : ℕ) → IsOpening opened → (recorded_state rec opened k).count ≡ recorded_count rec k
 unfolding recorded_state_of
 count-recorded rec opened zero opens = opens.count
 count-recorded rec opened (suc k) opens = refl
+
+-- and it fits
+pub Fits-recorded : (rec : Recording) (opened : State) (k : ℕ) → IsRecordingValue rec → IsOpening opened → Fits (recorded_state rec opened k)
+Fits-recorded rec opened k is opens =
+    let runs = IsInRun-recorded rec opened k is opens in
+    Fits-grows opened (recorded_state rec opened k) opens.fits (Grows-run opened (recorded_state rec opened k) opens.fits runs (omega (arith, runs.end_from, opens.no_heap)))
