@@ -1,0 +1,4 @@
+mod Writing
+mod Joining
+mod Registers
+mod Fields

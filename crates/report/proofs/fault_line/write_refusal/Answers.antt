@@ -1,0 +1,19 @@
+use Rattle.report.proofs.fault_line.write_refusal.Goals as goal
+
+pub returns-in-Usage-clause-written : goal.returns-in-Usage-clause-written
+returns-in-Usage-clause-written g c = rw c.in-Usage.is c.write_line.ensures.written
+
+pub returns-in-Absent-clause-written : goal.returns-in-Absent-clause-written
+returns-in-Absent-clause-written g c = rw c.in-Absent.is c.write_line-in-Absent.ensures.written
+
+pub returns-in-TooLong-clause-written : goal.returns-in-TooLong-clause-written
+returns-in-TooLong-clause-written g c = rw c.in-TooLong.is c.write_line-in-TooLong.ensures.written
+
+pub returns-in-RecordingBroken-clause-written : goal.returns-in-RecordingBroken-clause-written
+returns-in-RecordingBroken-clause-written g c = rw (c.in-RecordingBroken.is, ← c.rec_cause_name.ensures) c.write_line-in-RecordingBroken.ensures.written
+
+pub returns-in-ImageBroken-clause-written : goal.returns-in-ImageBroken-clause-written
+returns-in-ImageBroken-clause-written g c = rw (c.in-ImageBroken.is, ← c.image_cause_name.ensures) c.write_line-in-ImageBroken.ensures.written
+
+pub returns-in-NotBuilt-clause-written : goal.returns-in-NotBuilt-clause-written
+returns-in-NotBuilt-clause-written g c = rw c.in-NotBuilt.is c.write_line-in-NotBuilt.ensures.written

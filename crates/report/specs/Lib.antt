@@ -1,0 +1,5 @@
+pub mod Report
+pub mod Status
+pub mod Writing
+pub mod Pieces
+pub mod RunEnd

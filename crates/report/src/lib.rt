@@ -1,0 +1,16 @@
+//! How commands end, the line that says so, and the report of a run.
+#![tactic(auto)]
+
+mod fault_line;
+mod lines;
+mod run_end;
+mod status;
+mod text;
+
+pub use fault_line::write_fault;
+pub use run_end::{RunEnd, recorded_end};
+pub use status::{Refusal, Status};
+pub use text::report_text;
+
+#[cfg(test)]
+mod tests;

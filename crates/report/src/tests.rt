@@ -1,0 +1,163 @@
+//! Lines and reports that were worked by hand.
+
+use crate::{Refusal, RunEnd, Status, report_text, write_fault};
+use call_log::{Break, BreakKind, End};
+use elf_image::{ImageCause, ImageFault};
+use rec_format::{RecCause, RecFault};
+use sl_base::{MemorySink, Seq};
+use std::alloc::Global;
+use std::test::Fail;
+use tracer_lang::{Record, TracerEnd};
+
+/// Whether a command that ended so ends the program with this number and writes this line.
+fn tells(alloc: Global, status: &Status, code: u8, line: &str) -> Result<bool, Fail> {
+    let mut err = MemorySink::new(alloc, 200, Vec::new(alloc))?;
+    let written = write_fault(&mut err, status).is_ok();
+    Ok(written && status.code() == code && err.bytes() == line.as_bytes())
+}
+
+/// The same of a refusal.
+fn refuses(alloc: Global, why: Refusal, code: u8, line: &str) -> Result<bool, Fail> {
+    tells(alloc, &Status::Refused(why), code, line)
+}
+
+/// The same of a break by a call or by the end, at a count.
+fn breaks(alloc: Global, count: u64, kind: BreakKind, line: &str) -> Result<bool, Fail> {
+    refuses(alloc, Refusal::ReplayBroken(Break { count, kind }), 8, line)
+}
+
+fn name(alloc: Global) -> Result<Seq<u8>, Fail> {
+    Ok(Seq::from_vec(b"a.rec".to_vec(alloc)?))
+}
+
+#[test]
+fn endings(rt: HostRuntime) -> Result<(), Fail> {
+    let alloc = rt.alloc();
+    assert!(rt; tells(alloc, &Status::Ok, 0, "")?);
+    assert!(rt; tells(alloc, &Status::StoreFault, 10, "sledge: store fault\n")?);
+    assert!(rt; tells(alloc, &Status::SinkFault, 11, "sledge: sink fault\n")?);
+    assert!(rt; tells(alloc, &Status::Memory, 12, "sledge: memory\n")?);
+    Ok(())
+}
+
+#[test]
+fn refusals(rt: HostRuntime) -> Result<(), Fail> {
+    let alloc = rt.alloc();
+    assert!(rt; refuses(alloc, Refusal::Usage, 1, "sledge: usage\n")?);
+    let why = Refusal::Absent { name: name(alloc)? };
+    assert!(rt; refuses(alloc, why, 2, "sledge: absent: a.rec\n")?);
+    let why = Refusal::TooLong {
+        limit: 268_435_456,
+        name: name(alloc)?,
+    };
+    assert!(rt;
+        refuses(
+            alloc,
+            why,
+            3,
+            "sledge: longer than 268435456 bytes: a.rec\n"
+        )?
+    );
+    let why = Refusal::RecordingBroken(RecFault {
+        place: 12,
+        cause: RecCause::PageRepeated,
+    });
+    assert!(rt;
+        refuses(
+            alloc,
+            why,
+            4,
+            "sledge: recording broken at 12: Page repeated\n"
+        )?
+    );
+    let why = Refusal::ImageBroken(ImageFault {
+        place: 16,
+        cause: ImageCause::WrongType,
+    });
+    assert!(rt; refuses(alloc, why, 5, "sledge: image broken at 16: Type\n")?);
+    let why = Refusal::CheckpointDiffers(Break {
+        count: 2,
+        kind: BreakKind::CheckpointDiffers {
+            index: 1,
+            part: 10,
+            at: 0,
+            recorded: 6,
+            replayed: 5,
+        },
+    });
+    let line = "sledge: checkpoint 1 differs at count 2, part 10, at 0x00000000: recorded \
+                0x00000006, replayed 0x00000005\n";
+    assert!(rt; refuses(alloc, why, 9, line)?);
+    assert!(rt; refuses(alloc, Refusal::NotBuilt, 15, "sledge: not built\n")?);
+    Ok(())
+}
+
+#[test]
+fn broken_replays(rt: HostRuntime) -> Result<(), Fail> {
+    let alloc = rt.alloc();
+    let kind = BreakKind::NoCall { index: 3 };
+    let line = "sledge: replay broken at count 7: call 3 is not recorded\n";
+    assert!(rt; breaks(alloc, 7, kind, line)?);
+    let kind = BreakKind::CallDiffers {
+        index: 0,
+        field: 7,
+        recorded: 0xffff_ffff,
+        due: 12,
+    };
+    let line = "sledge: replay broken at count 9: call 0 field 7: recorded 0xffffffff, due \
+                0x0000000c\n";
+    assert!(rt; breaks(alloc, 9, kind, line)?);
+    let kind = BreakKind::EarlyEnd { end: 5 };
+    assert!(rt;
+        breaks(
+            alloc,
+            3,
+            kind,
+            "sledge: replay broken at count 3: ends before 5\n"
+        )?
+    );
+    let kind = BreakKind::EndDiffers {
+        recorded: End::Exited(4),
+        replayed: End::Trapped(2),
+    };
+    let line = "sledge: replay broken at count 3: end is trapped 0x00000002, recorded exited \
+                0x00000004\n";
+    assert!(rt; breaks(alloc, 3, kind, line)?);
+    let kind = BreakKind::CallsLeft { index: 1 };
+    assert!(rt;
+        breaks(
+            alloc,
+            3,
+            kind,
+            "sledge: replay broken at count 3: call 1 is left\n"
+        )?
+    );
+    Ok(())
+}
+
+#[test]
+fn report(rt: HostRuntime) -> Result<(), Fail> {
+    let alloc = rt.alloc();
+    let mut x = [0; 32];
+    x[2] = 0x7fff_ffe0;
+    x[31] = 1;
+    let last = RunEnd {
+        end: End::Exited(5),
+        count: 3,
+        pc: 0x1000c,
+        x,
+    };
+    let entry = Record {
+        count: 2,
+        point: 0,
+        pc: 0x10008,
+        words: Seq::from_vec(vec![in alloc; 5, 0x5d]?),
+        outcome: TracerEnd::LoadFault(16),
+    };
+    let text = report_text(alloc, &[entry], &last)?;
+    let expected = "1,all,2,0,0x00010008,LoadFault 0x00000010,0x00000005 0x0000005d\n\
+                    end,exited,3,,0x0001000c,,0x00000005\n\
+                    regs,x,,,,,x2=0x7fffffe0 x31=0x00000001\n";
+    assert_eq!(rt; text.as_slice(), expected.as_bytes());
+    Ok(())
+}
