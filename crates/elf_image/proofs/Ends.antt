@@ -107,7 +107,7 @@ module _ (ends : Ends) (segments : List Segment) (are : AreEnds ends segments) (
 
 -- ---- one more segment
 
-each_kept : (P Q : Segment → Type 0) → ((s : Segment) → P s → Q s) → (segments : List Segment) (segment : Segment) → AllByRecursion P segments → Q segment → AllByRecursion Q (segments ++ segment ∷ [])
+pub each_kept : (P Q : Segment → Type 0) → ((s : Segment) → P s → Q s) → (segments : List Segment) (segment : Segment) → AllByRecursion P segments → Q segment → AllByRecursion Q (segments ++ segment ∷ [])
 each_kept P Q gives [] segment each new = (new, tt)
 each_kept P Q gives (s ∷ ss) segment each new = (gives s each.0, each_kept P Q gives ss segment each.1 new)
 

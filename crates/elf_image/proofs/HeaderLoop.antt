@@ -1,5 +1,5 @@
 -- The program headers one after the other.
-use Rattle.std.specs.Prelude.{◌*◌, ◌-◌, zero, suc, filter, map, nat_le, ◌==◌}
+use Rattle.std.specs.Prelude.{◌*◌, filter, map, nat_le, ◌==◌}
 use Rattle.std.specs.BTreeSet.{BTreeSet, IsEmpty}
 use Rattle.std.proofs.Common.{◌≡◌, ℕ, ◌+◌, ◌<◌, ◌≤◌, Bool, true, false, cond, List, [], ◌∷◌, ◌++◌, length, None, refl, sym, ap, subst, ◌∙◌, ⊎_elim, arith, append_assoc}
 use Rattle.std.proofs.lemmas.Bool.{or_cases, eqb-true, leb-true}
@@ -12,34 +12,24 @@ use Rattle.elf_image.specs.declared.fault.ImageFault.{ImageFault}
 use Rattle.elf_image.specs.declared.image.Segment.{Segment}
 use Rattle.elf_image.specs.Checks.{first_failing, Refuses}
 use Rattle.elf_image.specs.Header.{e_phoff, e_phnum, header_checks, ident_checks, kind_checks}
-use Rattle.elf_image.specs.Segments.{offsets, program_header, program_headers, is_loaded, segment_of, segments, with_header, one_header_checks, each_header_checks}
+use Rattle.elf_image.specs.Segments.{program_header, program_headers, is_loaded, segment_of, segments, with_header, one_header_checks, each_header_checks}
 use Rattle.elf_image.specs.Ranges.{ArePages}
+use Rattle.elf_image.proofs.Offsets.{offsets_from, offsets_from-more, offsets_from-none, offsets_from-all}
 use Rattle.elf_image.proofs.CheckLaws.{first_failing-later, refuses_early, AllPass-append, all_pass}
 
 -- ---- the headers that are left
 
 abbrev pub headers_from : List ℕ → ℕ → List ProgramHeader
-headers_from file i = map (program_header file) (offsets (e_phoff file + 32 * i) 32 (e_phnum file - i))
-
-pub offsets-more : (start size n : ℕ) → 0 < n → offsets start size n ≡ start ∷ offsets (start + size) size (n - 1)
-offsets-more start size zero some = absurd (omega arith)
-offsets-more start size (suc n) some = ap (λ m. start ∷ offsets (start + size) size m) (omega arith)
+headers_from file i = map (program_header file) (offsets_from (e_phoff file) 32 (e_phnum file) i)
 
 headers-more : (file : List ℕ) (i : ℕ) → i < e_phnum file → headers_from file i ≡ program_header file (e_phoff file + 32 * i) ∷ headers_from file (i + 1)
-headers-more file i more =
-    ap (map (program_header file)) (offsets-more (e_phoff file + 32 * i) 32 (e_phnum file - i) (omega arith))
-    ∙ ap (λ n. program_header file (e_phoff file + 32 * i) ∷ map (program_header file) (offsets n 32 (e_phnum file - i - 1))) (omega arith)
-    ∙ ap (λ n. program_header file (e_phoff file + 32 * i) ∷ map (program_header file) (offsets (e_phoff file + 32 * (i + 1)) 32 n)) (omega arith)
+headers-more file i more = ap (map (program_header file)) (offsets_from-more (e_phoff file) 32 (e_phnum file) i more)
 
 headers-none : (file : List ℕ) (i : ℕ) → e_phnum file ≤ i → headers_from file i ≡ []
-headers-none file i le =
-    let none : e_phnum file - i ≡ 0 = omega arith in
-    ap (λ n. map (program_header file) (offsets (e_phoff file + 32 * i) 32 n)) none
+headers-none file i end = ap (map (program_header file)) (offsets_from-none (e_phoff file) 32 (e_phnum file) i end)
 
 headers-all : (file : List ℕ) → headers_from file 0 ≡ program_headers file
-headers-all file =
-    ap (λ n. map (program_header file) (offsets n 32 (e_phnum file - 0))) (omega arith)
-    ∙ ap (λ n. map (program_header file) (offsets (e_phoff file) 32 n)) (omega arith)
+headers-all file = ap (map (program_header file)) (offsets_from-all (e_phoff file) 32 (e_phnum file))
 
 -- ---- what the loop keeps
 
@@ -63,7 +53,7 @@ refuses_same : (e : Refused ImageFault) (xs ys : List Check) → first_failing x
 refuses_same refused.Memory xs ys same is = tt
 refuses_same (refused.Fault fault) xs ys same is = sym same ∙ is
 
-loads-more : (file : List ℕ) (loaded : List Segment) (header : ProgramHeader) (headers : List ProgramHeader) → loaded ++ loads file (header ∷ headers) ≡ with_header file loaded header ++ loads file headers
+pub loads-more : (file : List ℕ) (loaded : List Segment) (header : ProgramHeader) (headers : List ProgramHeader) → loaded ++ loads file (header ∷ headers) ≡ with_header file loaded header ++ loads file headers
 loads-more file loaded header headers = chosen (is_loaded header)
   where
     chosen : (b : Bool) → loaded ++ map (segment_of file) (cond b (header ∷ filter is_loaded headers) (filter is_loaded headers)) ≡ (cond b (loaded ++ segment_of file header ∷ []) loaded) ++ loads file headers

@@ -1,7 +1,13 @@
 pub mod PageSet
 pub mod LoadableLaws
 pub mod FlatLaws
-mod Ends
+pub mod Ends
 mod PageLaws
 pub mod CheckLaws
-mod HeaderLoop
+pub mod HeaderLoop
+mod Offsets
+mod SymbolLoops
+mod Names
+pub mod LoadedLaws
+pub mod Bytes
+pub mod ElfLaws

@@ -1,7 +1,7 @@
 -- The symbols of an ELF32 file, and the checks of their tables (System V ABI, Sections, String Table, Symbol Table).
-use Rattle.std.specs.Prelude.{ℕ, ◌+◌, ◌*◌, ◌/◌, ◌%◌, ◌==◌, ◌&&◌, ◌||◌, not, Bool, List, [], ◌∷◌, length, map, find, position, take, drop, Option, None, Some, nat_lt, nat_le, slice_range, if◌then◌else◌}
-use Rattle.std.specs.List.{filter_map}
-use Rattle.std.specs.Option.{option_map, option_and_then}
+use Rattle.std.specs.Prelude.{ℕ, ◌+◌, ◌*◌, ◌/◌, ◌%◌, ◌==◌, ◌&&◌, ◌||◌, not, Bool, List, [], ◌∷◌, ◌++◌, length, map, find, drop, Option, None, Some, nat_lt, nat_le, slice_range, if◌then◌else◌}
+use Rattle.std.specs.List.{filter_map, list_any, before_first}
+use Rattle.std.specs.Option.{option_map}
 use Rattle.sl_base.specs.declared.symbol.Symbol.{Symbol}
 use Rattle.elf_image.specs.declared.check.Check.{Check}
 use Rattle.elf_image.specs.declared.headers.SectionHeader.{SectionHeader}
@@ -64,14 +64,17 @@ table_checks file (Some s) =
     ∷ check (lies_in_file file strings) (strings.place + 16) SymbolTable
     ∷ []
 
--- where there are sections, their headers take 40 bytes each and lie in the file
+-- the section headers take 40 bytes each and lie in the file
+abbrev pub sections_checks : List ℕ → List Check
+sections_checks file =
+    check (e_shentsize file == 40) 46 SymbolTable
+    ∷ check (nat_le (e_shoff file + 40 * e_shnum file) (length file)) 32 SymbolTable
+    ∷ []
+
 abbrev pub symbol_checks : List ℕ → List Check
 symbol_checks file =
-    let end = e_shoff file + 40 * e_shnum file in
     if has_sections file
-    then check (e_shentsize file == 40) 46 SymbolTable
-    ∷ check (nat_le end (length file)) 32 SymbolTable
-    ∷ table_checks file (symbol_table file)
+    then sections_checks file ++ table_checks file (symbol_table file)
     else []
 
 -- ---- the symbols
@@ -90,15 +93,15 @@ symbol_entry file place =
 abbrev pub is_kept : SymbolEntry → Bool
 is_kept entry = nat_le (entry.st_info % 16) 2 && not (entry.st_shndx == 0)
 
--- the bytes up to the first zero byte, where there is one and some bytes stand before it
-abbrev pub text_of : List ℕ → Option (List ℕ)
-text_of bytes =
-    option_and_then (λ len. if len == 0 then None else Some (take len bytes))
-    (position (λ b. b == 0) bytes)
+abbrev pub is_zero : ℕ → Bool
+is_zero b = b == 0
 
--- the name that starts at an offset of a string table, if there is one
+-- the bytes from an offset of a string table up to the first zero byte, where there is one and some stand before it
 unfoldable pub name_at : List ℕ → ℕ → Option (List ℕ)
-name_at strings offset = text_of (drop offset strings)
+name_at strings offset =
+    let rest = drop offset strings in
+    let name = before_first is_zero rest in
+    if list_any is_zero rest && nat_lt 0 (length name) then Some name else None
 
 -- the symbol that an entry names, with this string table
 abbrev pub symbol_of : List ℕ → SymbolEntry → Option Symbol
@@ -107,13 +110,15 @@ symbol_of strings entry =
     then option_map (λ name. record { name = name; value = entry.st_value }) (name_at strings entry.st_name)
     else None
 
--- the symbols of a table, in its order
+-- the symbols of a table with these strings, in its order
+unfoldable pub entry_symbols : List ℕ → SectionHeader → List ℕ → List Symbol
+entry_symbols file table strings =
+    filter_map (λ place. symbol_of strings (symbol_entry file place))
+    (offsets table.sh_offset 16 (table.sh_size / 16))
+
 abbrev pub table_symbols : List ℕ → Option SectionHeader → List Symbol
 table_symbols file None = []
-table_symbols file (Some s) =
-    let strings = section_bytes file (section file s.sh_link) in
-    let places = offsets s.sh_offset 16 (s.sh_size / 16) in
-    filter_map (λ place. symbol_of strings (symbol_entry file place)) places
+table_symbols file (Some s) = entry_symbols file s (section_bytes file (section file s.sh_link))
 
 abbrev pub symbols : List ℕ → List Symbol
 symbols file = table_symbols file (symbol_table file)

@@ -1,6 +1,6 @@
 //! The file header.
 
-ghost use Rattle.elf_image.specs.Checks.{Tells};
+ghost use Rattle.elf_image.specs.Checks.{Tells, TellsUnlessMemory, IsSure};
 ghost use Rattle.elf_image.specs.Header.{ident_checks, kind_checks, header_checks};
 ghost use Rattle.std.specs.Prelude.{◌≡◌, ◌<◌, ◌≤◌, ◌^◌, length};
 
@@ -11,6 +11,7 @@ use crate::fault::ImageCause::{
 use crate::fault::ImageFault;
 use crate::fields::{half, word};
 use crate::headers::PROGRAM_HEADER_BYTES;
+use sl_base::Refused;
 
 /// The bytes of the file header.
 pub const FILE_HEADER_BYTES: usize = 52;
@@ -67,10 +68,18 @@ fn kind(file: &[u8]) -> Result<(), ImageFault>
 }
 
 /// Checks the file header.
-pub fn header(file: &[u8]) -> Result<(), ImageFault>
+fn header_passes(file: &[u8]) -> Result<(), ImageFault>
     ensures { Tells result (header_checks file.now) }
 {
     all_pass(&[Check::new(file.len() >= FILE_HEADER_BYTES, 0, Short)])?;
     ident(file)?;
     kind(file)
+}
+
+/// Checks the file header, and tells the fault as a refusal.
+pub fn header(file: &[u8]) -> Result<(), Refused<ImageFault>>
+    ensures told { TellsUnlessMemory result (header_checks file.now) }
+    ensures sure { IsSure result }
+{
+    header_passes(file).map_err(Refused::Fault)
 }

@@ -11,10 +11,13 @@ mod image;
 mod loaded;
 mod memory;
 mod pages;
+mod reading;
 mod segments;
+mod symbols;
 #[cfg(test)]
 mod tests;
 
 pub use fault::{ImageCause, ImageFault};
 pub use flat::flat_image;
 pub use image::{Image, Segment};
+pub use reading::{image_or_fault, read_image};
