@@ -37,7 +37,10 @@ epoch_of epochs word = if nat_lt word epochs then Some word else None
 
 -- a claim: the number drawn joins the claims where it is below the epochs, else the seat was told
 abbrev pub claimed : View → ℕ → View
-claimed v drawn = if nat_lt drawn v.epochs then record v { claims = v.claims ++ drawn ∷ [] } else record v { told = true }
+claimed v drawn =
+    if nat_lt drawn v.epochs
+    then record v { claims = v.claims ++ drawn ∷ [] }
+    else record v { told = true }
 
 -- a load of the least break
 abbrev pub looked : View → ℕ → View

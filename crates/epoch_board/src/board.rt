@@ -104,7 +104,8 @@ impl Board {
         ensures epoch { IfSome result (λ k. k < self.now.epochs) }
         ensures rising { IfSome result (λ k. All (λ c. c < k) seat.old.claims) }
         ensures fewer { IfSome result (λ _. epochs_left seat.new < epochs_left seat.old) }
-        ensures claimed { IfSome result (λ k. seat.new ≡ record seat.old { claims = seat.old.claims ++ k ∷ [] }) }
+        ensures claimed { IfSome result
+            (λ k. seat.new ≡ record seat.old { claims = seat.old.claims ++ k ∷ [] }) }
         ensures told { IfNone result (seat.new ≡ record seat.old { told = true }) }
     {
         let words = &self.table.shared;

@@ -7,6 +7,7 @@ ghost use Rattle.epoch_board.specs.Rule.{times};
 use crate::{Board, BoardSeat};
 use sl_base::Memory;
 use std::alloc::Global;
+use std::mem::size_of;
 use std::test::Fail;
 use std::thread;
 use std::thread::Threads;
@@ -91,7 +92,8 @@ fn claim_in_threads<R: Threads + Sync>(
         seats,
         &|seat: BoardSeat| -> Result<Done, Memory>
             requires { IsSeatOf board.now 1 false [] seat }
-            ensures { IfOk result (λ done. IsSeatOf board.entry.now 1 true done.epochs.items done.seat) }
+            ensures { IfOk result
+                (λ done. IsSeatOf board.entry.now 1 true done.epochs.items done.seat) }
         { claim_all(alloc, board, seat, breaks) },
     )?;
     Ok(all)
@@ -99,8 +101,11 @@ fn claim_in_threads<R: Threads + Sync>(
 
 fn join_all(board: &Board, mut all: Vec<Result<Done, Memory>>) -> Result<Gathered, Memory>
     requires some { 1 ≤ vec_len all }
-    requires each { All (λ r. IfOk r (λ done. IsSeatOf board.now 1 true done.epochs.items done.seat)) all.items }
-    ensures { IfOk result (λ done. IsSeatOf board.now (vec_len all) true done.epochs.items done.seat) }
+    requires each { All
+        (λ r. IfOk r (λ done. IsSeatOf board.now 1 true done.epochs.items done.seat))
+        all.items }
+    ensures { IfOk result
+        (λ done. IsSeatOf board.now (vec_len all) true done.epochs.items done.seat) }
 {
     let Some(first) = all.pop() else {
         unreachable!()
@@ -192,5 +197,6 @@ fn is_shared_and_sent<T: Sync, U: Send>(_shared: &T, _sent: &U) {}
 fn threads_may_share_a_board_and_take_a_seat(rt: HostRuntime) -> Result<(), Fail> {
     let (board, seat) = Board::new(rt.alloc(), 1, 1)?;
     is_shared_and_sent(&board, &seat);
+    assert_eq!(rt; size_of::<BoardSeat>(), 0);
     Ok(())
 }
