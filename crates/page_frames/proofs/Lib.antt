@@ -7,3 +7,4 @@ pub mod Mapped
 pub mod Copied
 pub mod Stored
 pub mod Loaded
+pub mod Ranges

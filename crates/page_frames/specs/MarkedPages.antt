@@ -1,10 +1,11 @@
 -- Pages with the list of those that changed, which are called dirty.
-use Rattle.std.specs.Prelude.{ℕ, zero, suc, ◌+◌, ◌/◌, ◌<◌, ◌≤◌, nat_eq, List, [], ◌∷◌, ◌++◌, length, if◌then◌else◌, IsSome, Contains, replicate}
+use Rattle.std.specs.Prelude.{ℕ, zero, suc, ◌+◌, ◌/◌, ◌<◌, ◌≤◌, nat_eq, List, [], ◌∷◌, ◌++◌, length, if◌then◌else◌, IsSome, Contains}
 use Rattle.std.specs.List.{IsDistinct, list_any}
 use Rattle.std.specs.FinMap.{get, len, insert, contains_key}
 use Rattle.std.specs.Coded.{Coded, code_by, coded×, coded_ℕ, coded_list}
 use Rattle.std.specs.FinMap as map
 use Rattle.std.proofs.Common.{refl}
+use Rattle.sl_model.specs.Mapping.{zero_page}
 use Rattle.sl_model.specs.Pages.{Pages, ArePages, set_bytes}
 use Rattle.sl_model.specs.declared.layout.TheConstants.{PAGE_SIZE, PROGRAM_PAGES, MOST_PAGES}
 
@@ -15,7 +16,12 @@ pub record MarkedPages : Type 0 where
 
 -- it is stored as the pair of its fields
 abbrev pub marked_pages_code : Coded MarkedPages
-marked_pages_code = code_by (Pages × List ℕ) (coded× (map.code coded_ℕ (coded_list coded_ℕ)) (coded_list coded_ℕ)) (λ m. (m.pages, m.dirty)) (λ p. record { pages = p.0; dirty = p.1 }) (λ _. refl)
+marked_pages_code =
+    code_by (Pages × List ℕ)
+    (coded× (map.code coded_ℕ (coded_list coded_ℕ)) (coded_list coded_ℕ))
+    (λ m. (m.pages, m.dirty))
+    (λ p. record { pages = p.0; dirty = p.1 })
+    (λ _. refl)
 
 -- a list of dirty pages with a further one, at the end where it does not stand in it yet
 abbrev pub mark : List ℕ → ℕ → List ℕ
@@ -28,7 +34,14 @@ mark_bytes dirty address (suc count) = mark_bytes (mark dirty (address / PAGE_SI
 
 -- a page of zeros, which is dirty, where the page is not mapped yet
 abbrev pub with_page : MarkedPages → ℕ → MarkedPages
-with_page m page = if contains_key m.pages page then m else record { pages = insert m.pages page (replicate PAGE_SIZE 0); dirty = m.dirty ++ page ∷ [] }
+with_page m page =
+    if contains_key m.pages page then m
+    else record { pages = insert m.pages page zero_page; dirty = m.dirty ++ page ∷ [] }
+
+-- the same for so many pages from one on
+unfoldable pub with_pages : MarkedPages → ℕ → ℕ → MarkedPages
+with_pages m first zero = m
+with_pages m first (suc count) = with_pages (with_page m first) (first + 1) count
 
 -- bytes from an address on, whose pages are dirty
 abbrev pub with_bytes : MarkedPages → ℕ → List ℕ → MarkedPages

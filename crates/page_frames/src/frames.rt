@@ -4,9 +4,10 @@ ghost use Rattle.std.specs.Prelude.{◌≡◌, ℕ, ◌+◌, ◌-◌, ◌<◌, �
 ghost use Rattle.std.specs.Option.{option_copied};
 ghost use Rattle.std.specs.FinMap.{get, len, empty};
 ghost use Rattle.sl_model.specs.Pages.{IsWidth, byte_at, bytes_at, load_at, store_at, low_bytes};
+ghost use Rattle.sl_model.specs.Mapping.{map_page, map_pages};
 ghost use Rattle.sl_model.specs.Marks.{MarksGoOn};
 ghost use Rattle.sl_model.specs.declared.layout.TheConstants.{PROGRAM_PAGES, MOST_PAGES};
-ghost use Rattle.page_frames.specs.MarkedPages.{IsKept, with_page, with_bytes};
+ghost use Rattle.page_frames.specs.MarkedPages.{IsKept, with_page, with_pages, with_bytes};
 
 use crate::frame::{Frame, PAGE_LEN, bytes_of};
 use sl_base::Memory;
@@ -64,6 +65,31 @@ impl Frames {
         self.frames.insert(page, Frame::zeros(place))?;
         self.dirty.push_reserved(page);
         Ok(())
+    }
+
+    /// Maps pages of zeros, so many from one on, as `map_page` maps one. After an `Err` some of them are mapped.
+    pub fn map_pages(&mut self, first: u32, count: u32) -> Result<(), Memory>
+        requires below { first + count ≤ PROGRAM_PAGES }
+        requires few { len (map_pages self.old.pages first count) ≤ MOST_PAGES }
+        ensures ok { OnOk result (self.new ≡ with_pages self.old first count) }
+        ensures pages { OnOk result (self.new.pages ≡ map_pages self.old.pages first count) }
+    {
+        for page in first..first + count {
+            self.map_missing(page)?;
+        }
+        Ok(())
+    }
+
+    /// Maps a page of zeros where it is not mapped, for which there is room then.
+    fn map_missing(&mut self, page: u32) -> Result<(), Memory>
+        requires below { page < PROGRAM_PAGES }
+        requires few { len (map_page self.old.pages page) ≤ MOST_PAGES }
+        ensures { OnOk result (self.new ≡ with_page self.old page) }
+    {
+        match self.page(page) {
+            Some(_) => Ok(()),
+            None => self.map_page(page),
+        }
     }
 
     /// Whether `len` bytes from an address on are mapped. No byte from 2^32 on is.

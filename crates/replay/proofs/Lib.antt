@@ -1,3 +1,8 @@
 pub mod Onward
 mod AtEnd
 pub mod InRun
+pub mod OpeningPages
+pub mod OpeningStack
+pub mod LoadedSteps
+pub mod Opens
+pub mod OpeningBytes

@@ -1,21 +1,23 @@
 -- The opening state: a program as it is loaded, with its stack.
-use Rattle.std.specs.Prelude.{ℕ, ◌+◌, ◌-◌, ◌*◌, ◌/◌, ◌==◌, List, [], ◌∷◌, ◌++◌, length, min, max, replicate, slice_set, nat_le, if◌then◌else◌}
-use Rattle.std.specs.List.{flat_map}
+use Rattle.std.specs.Prelude.{ℕ, ◌<◌, ◌+◌, ◌-◌, ◌*◌, ◌/◌, ◌==◌, List, [], ◌∷◌, ◌++◌, length, min, max, replicate, slice_set, nat_le, if◌then◌else◌}
+use Rattle.std.specs.List.{All, AllByRecursion, flat_map}
 use Rattle.std.specs.FinMap.{empty}
 use Rattle.sl_model.specs.declared.run_state.RunState.TheVariants.{Running}
 use Rattle.sl_model.specs.Pages.{Pages, set_bytes, low_bytes}
 use Rattle.sl_model.specs.Mapping.{map_pages}
 use Rattle.sl_model.specs.State.{State}
-use Rattle.sl_model.specs.declared.layout.TheConstants.{MEMORY_END}
+use Rattle.sl_model.specs.declared.layout.TheConstants.{PAGE_SIZE, MEMORY_END, STACK_START, STACK_END, FIRST_STACK_PAGE, STACK_PAGES, HEAP_SIZE}
 use Rattle.elf_image.specs.declared.image.Image.{Image}
 use Rattle.elf_image.specs.declared.image.Segment.{Segment}
-use Rattle.elf_image.specs.Flat.{FIRST_STACK_PAGE, STACK_PAGES, page_count}
+use Rattle.elf_image.specs.Flat.{page_count}
 
 -- ---- memory
 
 -- the pages that meet a segment
 abbrev pub map_segment : Pages → Segment → Pages
-map_segment pages segment = if segment.memsz == 0 then pages else map_pages pages (segment.vaddr / 4096) (page_count segment.vaddr segment.memsz)
+map_segment pages segment =
+    if segment.memsz == 0 then pages
+    else map_pages pages (segment.vaddr / PAGE_SIZE) (page_count segment.vaddr segment.memsz)
 
 unfoldable pub map_segments : Pages → List Segment → Pages
 map_segments pages [] = pages
@@ -30,10 +32,7 @@ unfoldable pub fill_segments : Pages → List Segment → Pages
 fill_segments pages [] = pages
 fill_segments pages (segment ∷ segments) = fill_segments (set_bytes pages segment.vaddr segment.bytes) segments
 
--- ---- the stack, below its end at 0x80000000
-
-abbrev pub STACK_END : ℕ
-STACK_END = 0x80000000
+-- ---- the stack
 
 -- the least multiple of a size that is n or more
 abbrev pub round_up : ℕ → ℕ → ℕ
@@ -62,26 +61,32 @@ stack_pointer args = (strings_start args - 4 * (length args + 5)) / 16 * 16
 
 -- the arguments, and the words at the stack pointer
 abbrev pub fill_stack : Pages → List (List ℕ) → Pages
-fill_stack pages args = set_bytes (set_bytes pages (strings_start args) (strings args)) (stack_pointer args) (flat_map (low_bytes 4) (stack_words args))
+fill_stack pages args =
+    let with_strings : Pages = set_bytes pages (strings_start args) (strings args) in
+    set_bytes with_strings (stack_pointer args) (flat_map (low_bytes 4) (stack_words args))
 
 -- ---- the heap
+
+-- the end of a segment, and 0 where it takes no memory
+abbrev pub end_of : Segment → ℕ
+end_of segment = if segment.memsz == 0 then 0 else segment.vaddr + segment.memsz
 
 -- the end of the highest segment that takes memory
 abbrev pub highest_end : List Segment → ℕ
 highest_end [] = 0
-highest_end (segment ∷ segments) = if segment.memsz == 0 then highest_end segments else max (segment.vaddr + segment.memsz) (highest_end segments)
+highest_end (segment ∷ segments) = max (end_of segment) (highest_end segments)
 
 -- where the heap starts
 abbrev pub heap_start : Image → ℕ
-heap_start image = round_up 4096 (highest_end image.segments)
+heap_start image = round_up PAGE_SIZE (highest_end image.segments)
 
 -- what a heap must not pass: the stack, where it starts below it, and else the end of memory
 abbrev pub wall : ℕ → ℕ
-wall start = if nat_le start (FIRST_STACK_PAGE * 4096) then FIRST_STACK_PAGE * 4096 else MEMORY_END
+wall start = if nat_le start STACK_START then STACK_START else MEMORY_END
 
 -- 16 MiB of heap, as far as there is room
 abbrev pub heap_limit : ℕ → ℕ
-heap_limit start = min (start + 0x1000000) (wall start)
+heap_limit start = min (start + HEAP_SIZE) (wall start)
 
 -- ---- the state
 
@@ -94,14 +99,19 @@ opening_registers args = slice_set (replicate 32 0) 2 (stack_pointer args)
 
 unfoldable pub opening : Image → List (List ℕ) → State
 opening image args =
+    let start : ℕ = heap_start image in
     record {
       pc = image.entry;
       x = opening_registers args;
       pages = opening_pages image args;
-      brk = heap_start image;
-      brk_end = heap_start image;
+      brk = start;
+      brk_end = start;
       next_call = 0;
       status = Running;
       count = 0;
-      layout = record { brk_start = heap_start image; heap_limit = heap_limit (heap_start image) };
+      layout = record { brk_start = start; heap_limit = heap_limit start };
     }
+
+-- arguments are bytes
+abbrev pub AreBytes : List (List ℕ) → Type 0
+AreBytes args = AllByRecursion (λ arg. All (λ b. b < 256) arg) args

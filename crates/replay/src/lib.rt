@@ -3,11 +3,15 @@
 
 mod advancing;
 mod ending;
+mod heap;
 mod laws;
+mod loading;
+mod stack;
 
 pub use advancing::advance_one;
 pub use ending::end_break;
-pub use laws::replays_keep_the_layout;
+pub use laws::{programs_open, replays_keep_the_layout};
+pub use loading::load;
 
 #[cfg(test)]
 mod tests;

@@ -1,13 +1,15 @@
 -- Laws of pages of zeros that are mapped where none stands.
-use Rattle.std.specs.Prelude.{if◌then◌else◌, ◌&&◌, ◌||◌, nat_le, nat_lt, nat_eq, IfSome, is_some}
+use Rattle.std.specs.Prelude.{if◌then◌else◌, ◌&&◌, ◌||◌, nat_le, nat_lt, nat_eq, IfSome, is_some, replicate}
+use Rattle.std.specs.List.{All}
 use Rattle.std.specs.Cmp.{nat_cmp_total}
 use Rattle.std.specs.FinMap.{get, insert, len, contains_key, get-insert, len-insert, gets}
-use Rattle.std.proofs.Common.{◌≡◌, ℕ, zero, suc, ◌+◌, ◌-◌, ◌<◌, ◌≤◌, Bool, true, false, cond, List, length, Option, Some, None, ⊎_elim, refl, sym, ap, ◌∙◌, arith, eq-eqb, ne_eqb}
-use Rattle.std.proofs.lemmas.Bool.{cases_eq}
+use Rattle.std.proofs.Common.{◌≡◌, ℕ, zero, suc, ◌+◌, ◌-◌, ◌^◌, ◌<◌, ◌≤◌, Bool, true, false, cond, List, length, Option, Some, None, ⊎_elim, refl, sym, ap, ◌∙◌, arith, eq-eqb, ne_eqb}
+use Rattle.std.proofs.lemmas.Bool.{cases_eq, and_parts, ltb-true}
 use Rattle.std.proofs.lemmas.Bool.Decides.{nat_tests}
 use Rattle.std.proofs.lemmas.Grind.{common_steps}
 use Rattle.std.proofs.lemmas.List.{length-replicate}
-use Rattle.sl_model.specs.Pages.{Pages}
+use Rattle.std.proofs.lemmas.List.Elements.{All-nil, All-cons}
+use Rattle.sl_model.specs.Pages.{Pages, ArePages, IsPage}
 use Rattle.sl_model.specs.PagesLaws.{AreWhole}
 use Rattle.sl_model.specs.Mapping.{zero_page, map_page, map_pages}
 
@@ -116,3 +118,24 @@ unfolding map_pages
 map_pages_done pages page stop le =
     let none : stop - page ≡ 0 = omega arith in
     ap (map_pages pages page) none
+
+-- ---- pages stay pages
+
+small_zeros : (n : ℕ) → All (λ b. b < 256) (replicate n 0)
+small_zeros zero = All-nil (λ b. b < 256)
+small_zeros (suc n) = All-cons (λ b. b < 256) 0 (replicate n 0) (omega arith) (small_zeros n)
+
+pub IsPage-zeros : IsPage zero_page
+IsPage-zeros = record { whole = length-replicate {A = ℕ} 4096 0; bytes = small_zeros 4096 }
+
+page-or_zeros : (number : ℕ) (page : Option (List ℕ)) (mapped : Bool) → IfSome page (λ p. (number < 2 ^ 20) × IsPage p) → (mapped ≡ true → number < 2 ^ 20)
+    → IfSome (or_zeros page mapped) (λ p. (number < 2 ^ 20) × IsPage p)
+page-or_zeros number (Some page) mapped is below = is
+page-or_zeros number None true is below = (below refl, IsPage-zeros)
+page-or_zeros number None false is below = tt
+
+pub ArePages-map_pages : (pages : Pages) (first count : ℕ) → ArePages pages → first + count ≤ 2 ^ 20 → ArePages (map_pages pages first count)
+ArePages-map_pages pages first count are within number =
+    rw (get-map_pages pages first count number) (page-or_zeros number (get pages number) (is_among first (first + count) number) (are number) (λ new.
+    let last : number < first + count = ltb-true number (first + count) (and_parts (nat_le first number) (nat_lt number (first + count)) new).1 in
+    omega arith))

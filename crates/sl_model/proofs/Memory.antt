@@ -3,7 +3,7 @@ use Rattle.std.specs.Prelude.{Option, IfSome, IsSome, is_some, unwrap_or, Bool, 
 use Rattle.std.specs.List.{All}
 use Rattle.std.specs.Option.{option_and_then, option_map}
 use Rattle.std.specs.FinMap.{get, insert, gets}
-use Rattle.std.proofs.Common.{◌≡◌, ℕ, zero, suc, ◌+◌, ◌*◌, ◌/◌, ◌%◌, ◌^◌, ◌<◌, ◌≤◌, inl, inr, ⊎_elim, List, [], ◌∷◌, length, Some, None, true, false, refl, ap, ◌∙◌, sym, subst, arith, ne_eqb, get_or}
+use Rattle.std.proofs.Common.{◌≡◌, ℕ, zero, suc, ◌+◌, ◌*◌, ◌/◌, ◌%◌, ◌^◌, ◌<◌, ◌≤◌, inl, inr, ⊎_elim, List, [], ◌∷◌, length, Some, None, true, false, refl, ap, ◌∙◌, sym, subst, arith, ne_eqb, get_or, add-zero}
 use Rattle.std.proofs.Math.ListN.{length-set}
 use Rattle.std.proofs.Math.Nat.{pow-succ', div-add-mod, mod-lt}
 use Rattle.std.proofs.lemmas.Nat.{mod-mul-add}
@@ -14,7 +14,7 @@ use Rattle.std.proofs.lemmas.List.Elements.{All-get_or, All-set, All-head, All-t
 use Rattle.std.proofs.lemmas.Option.{slice_get-get_or, slice_get_past, slice_get_within}
 use Rattle.sl_model.specs.Pages.{Pages, IsPage, ArePages, byte_at, bytes_at, set_byte, set_bytes, from_bytes, low_bytes, load_at, store_at}
 use Rattle.sl_model.specs.Stores.{IsElsewhere, IsStored}
-use Rattle.sl_model.specs.PagesLaws.{AreWhole, load_at-suc, is_some-bytes_at, is_some-set_bytes, get-set_byte_other, length-low_bytes, All-low_bytes}
+use Rattle.sl_model.specs.PagesLaws.{AreWhole, load_at-suc, is_some-byte_at, is_some-bytes_at, is_some-set_bytes, get-set_byte_other, length-low_bytes, All-low_bytes}
 use Rattle.sl_model.proofs.WholePages.{AreWhole-set_bytes}
 
 -- ---- what is loaded
@@ -86,6 +86,22 @@ AreWhole-pages pages are number = of (get pages number) (are number)
     of : (page : Option (List ℕ)) → IfSome page (λ p. (number < 2 ^ 20) × IsPage p) → IfSome page (λ p. length p ≡ 4096)
     of None is = tt
     of (Some page) is = is.1.whole
+
+-- ---- which bytes are mapped
+
+both : (a b : Bool) → a ≡ true → b ≡ true → (a && b) ≡ true
+both a b first second = rw (first, second) refl
+
+-- bytes are mapped where the page of each of them is
+pub bytes_at-from_pages : (pages : Pages) (address count : ℕ) → AreWhole pages → ((k : ℕ) → k < count → IsSome (get pages ((address + k) / 4096))) → IsSome (bytes_at pages address count)
+unfolding bytes_at
+bytes_at-from_pages pages address zero whole each = refl
+bytes_at-from_pages pages address (suc count) whole each =
+    let first : is_some (byte_at pages address) ≡ true = is_some-byte_at pages address whole ∙ ap (λ a. is_some (get pages (a / 4096))) (sym (add-zero address)) ∙ each 0 (omega arith) in
+    let rest : is_some (bytes_at pages (address + 1) count) ≡ true = bytes_at-from_pages pages (address + 1) count whole (λ k below.
+    let next : address + 1 + k ≡ address + (k + 1) = omega arith in
+    ap (λ a. is_some (get pages (a / 4096))) next ∙ each (k + 1) (omega arith)) in
+    is_some-bytes_at pages address count ∙ both (is_some (byte_at pages address)) (is_some (bytes_at pages (address + 1) count)) first rest
 
 -- ---- what is stored
 

@@ -144,7 +144,7 @@ IsWord-index [] r all = omega arith
 IsWord-index (a ∷ xs) zero all = all.0
 IsWord-index (a ∷ xs) (suc r) all = IsWord-index xs r all.1
 
-words-set : (x : List ℕ) (r value : ℕ) → AllByRecursion IsWord x → IsWord value → AllByRecursion IsWord (slice_set x r value)
+pub words-set : (x : List ℕ) (r value : ℕ) → AllByRecursion IsWord x → IsWord value → AllByRecursion IsWord (slice_set x r value)
 words-set [] r value all word = tt
 words-set (a ∷ xs) zero value all word = (word, all.1)
 words-set (a ∷ xs) (suc r) value all word = (all.0, words-set xs r value all.1 word)
