@@ -15,7 +15,8 @@ field_diff field recorded due =
 
 -- the first of some fields that differs, the first of them having this number
 abbrev pub fields_diff : ℕ → List ℕ → List ℕ → Option CallDiff
-fields_diff field (x ∷ xs) (y ∷ ys) = option_or (field_diff field x y) (fields_diff (field + 1) xs ys)
+fields_diff field (x ∷ xs) (y ∷ ys) =
+    option_or (field_diff field x y) (fields_diff (field + 1) xs ys)
 fields_diff field _ _ = None
 
 -- the first byte of a write that differs; which one is not told
@@ -42,7 +43,8 @@ due_length ask result =
 
 -- the number or the first argument that differs
 abbrev pub call_diff : Call → Call → Option CallDiff
-call_diff recorded due = option_or (field_diff 0 recorded.number due.number) (fields_diff 1 recorded.args due.args)
+call_diff recorded due =
+    option_or (field_diff 0 recorded.number due.number) (fields_diff 1 recorded.args due.args)
 
 -- the result, the length of the data or, of a write, a byte of the data that differs
 abbrev pub answer_diff : CallEntry → Ask → Option CallDiff

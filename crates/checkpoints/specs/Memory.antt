@@ -34,7 +34,9 @@ lesser (Some m) n = if nat_lt m n then m else n
 -- the least listed page that is not mapped, beside one from before
 abbrev pub missing_from : Pages → Option ℕ → List ListedPage → Option ℕ
 missing_from pages least [] = least
-missing_from pages least (page ∷ listed) = missing_from pages (if contains_key pages page.number then least else Some (lesser least page.number)) listed
+missing_from pages least (page ∷ listed) =
+    let next = if contains_key pages page.number then least else Some (lesser least page.number) in
+    missing_from pages next listed
 
 -- ---- the first of both
 
@@ -47,4 +49,5 @@ abbrev pub told_first : ℕ → Option (ℕ × BreakKind) → Option ℕ → Opt
 told_first index None None = None
 told_first index None (Some missing) = Some (missing_break index missing)
 told_first index (Some unlike) None = Some unlike.1
-told_first index (Some unlike) (Some missing) = Some (if nat_lt unlike.0 missing then unlike.1 else missing_break index missing)
+told_first index (Some unlike) (Some missing) =
+    Some (if nat_lt unlike.0 missing then unlike.1 else missing_break index missing)

@@ -1,4 +1,5 @@
--- A program before its first instruction has one proof at most of what it keeps, so that a type can keep it.
+-- What a program before its first instruction keeps has one proof at most, so that a type can
+-- keep it.
 use Rattle.std.proofs.Props.{props}
 use mathlib.Core.HLevel.{Unit-prop}
 use Rattle.sl_model.specs.declared.run_state.RunState.{RunState}

@@ -22,5 +22,5 @@ pub struct Checkpoints {
     /// Its memory.
     pub opening: Frames,
     ghost is_value: { IsRecordingValue rec } by { IsRecordingValue-prop rec },
-    ghost opens: { IsOpening (state_of machine opening.pages) } by { IsOpening-prop (state_of machine opening.pages) },
+    ghost opens: { IsOpening (state_of machine opening.pages) } by { IsOpening-prop _ },
 }

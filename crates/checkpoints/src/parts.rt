@@ -27,7 +27,8 @@ fn part_break(index: u32, number: u32, recorded: u32, replayed: u32) -> Option<B
 
 /// The first register that differs. The recorded ones are x1 to x31.
 fn registers_break(index: u32, recorded: &[u32; 31], registers: &[u32; 32]) -> Option<BreakKind>
-    ensures { result ≡ as_checkpoint_break index (parts_diff 1 recorded.now (drop 1 registers.now)) }
+    ensures { let diff = parts_diff 1 recorded.now (drop 1 registers.now) in
+        result ≡ as_checkpoint_break index diff }
 {
     for (i, value) in recorded.iter().enumerate() {
         let number = part::FIRST_REGISTER + i as u32;
@@ -42,7 +43,9 @@ fn registers_break(index: u32, recorded: &[u32; 31], registers: &[u32; 32]) -> O
 /// The first part that differs but for memory.
 #[tactic(auto, unfolding(rec_format::specs::Compared::machine_diff))]
 pub fn machine_break(index: u32, checkpoint: &CheckpointData, m: &Machine) -> Option<BreakKind>
-    ensures { (pages : Pages) → result ≡ as_checkpoint_break index (machine_diff checkpoint.now (state_of m.now pages)) }
+    ensures { (pages : Pages)
+        → let diff = machine_diff checkpoint.now (state_of m.now pages) in
+        result ≡ as_checkpoint_break index diff }
 {
     part_break(index, part::PC, checkpoint.pc, m.pc)
         .or(registers_break(index, &checkpoint.x, &m.x))

@@ -54,7 +54,8 @@ fn add(out: &mut Vec<u8>, row: &Row<'_>) -> Result<(), AllocError> {
 
 /// The pages 16 and 20, the first with the bytes 1, 2, 3 at its start.
 fn memory(alloc: Global) -> Result<Frames, Memory>
-    ensures pages { IfOk result (λ f. (page : ℕ) → IsSome (get f.pages page) → (page ≡ 16) ⊎ (page ≡ 20)) }
+    ensures pages { IfOk result
+        (λ f. (page : ℕ) → IsSome (get f.pages page) → (page ≡ 16) ⊎ (page ≡ 20)) }
     ensures few { IfOk result (λ f. len f.pages ≤ 2) }
 {
     let mut frames = Frames::new(alloc)?;

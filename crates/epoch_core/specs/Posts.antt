@@ -24,14 +24,16 @@ BrokeAt posts k = (first : Break) × Contains posts (post_of k (Broke first))
 
 -- the post was skipped below a smaller epoch that broke
 abbrev pub IsSkip : List Post → Post → Type 0
-IsSkip posts post = (below : ℕ) × (post.value ≡ Skipped below) × (below < post.epoch) × BrokeAt posts below
+IsSkip posts post =
+    (below : ℕ) × (post.value ≡ Skipped below) × (below < post.epoch) × BrokeAt posts below
 
 -- a post has its epoch's value, or it is a skip
 abbrev pub IsRight : List PostValue → List Post → Post → Type 0
 IsRight values posts post = (slice_get values post.epoch ≡ Some post.value) ⊎ IsSkip posts post
 
--- The posts are those of epochs with these values: each epoch has exactly one post, and no other number has one; each
--- post has its epoch's value, or was skipped below a smaller epoch whose post says that it broke.
+-- The posts are those of epochs with these values: each epoch has exactly one post, and no other
+-- number has one; each post has its epoch's value, or was skipped below a smaller epoch whose post
+-- says that it broke.
 pub record Posted (values : List PostValue) (posts : List Post) : Type 0 where
   pub once : (k : ℕ) → k < length values → posts_for k posts ≡ 1
   pub within : All (λ post. post.epoch < length values) posts

@@ -1,5 +1,5 @@
--- Workers claim, run and post epochs. One event is one action of one worker; an event that is not allowed where it
--- comes changes nothing, nor does one of a number that no worker has.
+-- Workers claim, run and post epochs. One event is one action of one worker; an event that is not
+-- allowed where it comes changes nothing, nor does one of a number that no worker has.
 use Rattle.std.specs.Prelude.{◌≡◌, ℕ, ◌+◌, ◌<◌, Bool, true, false, not, ◌&&◌, nat_lt, nat_le, min, if◌then◌else◌, List, [], ◌∷◌, ◌++◌, length, map, replicate, All, Option, Some, None, is_none, option_and_then, slice_get, slice_set}
 use Rattle.std.specs.Option.{option_map_or}
 use Rattle.std.specs.List.{flat_map}
@@ -43,7 +43,8 @@ with_seat core worker seat = record core { seats = slice_set core.seats worker s
 
 -- what follows at an idle worker's seat, where the event is allowed
 abbrev pub at_idle : Bool → (Seat → CoreState) → CoreState → ℕ → CoreState
-at_idle allowed follow core worker = at_seat (λ seat. if is_idle seat && allowed then follow seat else core) core worker
+at_idle allowed follow core worker =
+    at_seat (λ seat. if is_idle seat && allowed then follow seat else core) core worker
 
 -- an idle worker draws the next number, and its seat becomes this one
 abbrev pub drawn : CoreState → ℕ → Seat → CoreState
@@ -52,12 +53,15 @@ drawn core worker seat = record (with_seat core worker seat) { next = core.next 
 -- Claim: an idle worker holds the next number, where it is below the epochs
 unfoldable pub claim : ℕ → CoreState → ℕ → CoreState
 claim epochs core worker =
-    at_idle (nat_lt core.next epochs) (λ seat. drawn core worker (record seat { held = Some core.next })) core worker
+    at_idle (nat_lt core.next epochs)
+    (λ seat. drawn core worker (record seat { held = Some core.next })) core worker
 
 -- a post goes to the worker's tray, and the worker holds none
 unfoldable pub posted : CoreState → ℕ → Post → CoreState
 posted core worker post =
-    at_seat (λ seat. with_seat core worker (record seat { held = None; tray = seat.tray ++ post ∷ [] })) core worker
+    at_seat
+    (λ seat. with_seat core worker (record seat { held = None; tray = seat.tray ++ post ∷ [] }))
+    core worker
 
 -- the least known break, once epoch k broke too
 abbrev pub lowered : Option ℕ → ℕ → Option ℕ
@@ -72,11 +76,13 @@ low_after low k (Skipped below) = low
 
 -- a worker has run an epoch, and its post comes
 abbrev pub finished : CoreState → ℕ → Post → CoreState
-finished core worker post = record (posted core worker post) { low = low_after core.low post.epoch post.value }
+finished core worker post =
+    record (posted core worker post) { low = low_after core.low post.epoch post.value }
 
 abbrev pub finish_held : List PostValue → CoreState → ℕ → Option ℕ → CoreState
 finish_held values core worker None = core
-finish_held values core worker (Some k) = option_map_or (λ value. finished core worker (post_of k value)) (slice_get values k) core
+finish_held values core worker (Some k) =
+    option_map_or (λ value. finished core worker (post_of k value)) (slice_get values k) core
 
 -- Finish: the post of the epoch that is held, with its value
 unfoldable pub finish : List PostValue → CoreState → ℕ → CoreState
@@ -95,7 +101,8 @@ skip core worker = skip_held core worker (holds core worker) core.low
 -- Leave: an idle worker has left, where the number that it draws is no epoch's
 unfoldable pub leave : ℕ → CoreState → ℕ → CoreState
 leave epochs core worker =
-    at_idle (nat_le epochs core.next) (λ seat. drawn core worker (record seat { has_left = true })) core worker
+    at_idle (nat_le epochs core.next)
+    (λ seat. drawn core worker (record seat { has_left = true })) core worker
 
 -- what one event changes, where the epochs come to these values
 unfoldable pub after : List PostValue → CoreState → CoreEvent → CoreState

@@ -7,10 +7,10 @@ use Rattle.sl_model.specs.Pages.{Pages}
 use Rattle.sl_model.specs.State.{State}
 use Rattle.call_log.specs.declared.breaks.Break.{Break}
 use Rattle.call_log.specs.declared.breaks.BreakKind.{BreakKind}
-use Rattle.call_log.specs.declared.breaks.BreakKind.TheVariants.{EarlyEnd}
 use Rattle.rec_format.specs.Rules.{IsRecordingValue}
 use Rattle.rec_format.specs.declared.recording.Recording.{Recording}
-use Rattle.replay.specs.Run.{Onward, Goes, Breaks, onward, onward_in}
+use Rattle.replay.specs.Run.{Onward, Goes, Breaks, onward}
+use Rattle.replay.proofs.Onward.{onward_over}
 use Rattle.replay.specs.Breaks.{listed_break, at_count, listed_or, break_after}
 use Rattle.rec_format.specs.Recorded.{end_place, checkpoint_at, recorded_state, recorded_count}
 use Rattle.rec_format.specs.Compared.{PartDiff, checkpoint_diff, checkpoint_break, as_checkpoint_break}
@@ -28,10 +28,6 @@ pub record IsCut (rec : Recording) (a b c : ℕ) : Type 0 where
   pub within : c ≤ end_place rec
 
 -- ---- one instruction
-
-onward_exited : (rec : Recording) (s : State) (code : ℕ) → s.status ≡ Exited code → onward rec s ≡ Breaks (EarlyEnd rec.last.count)
-unfolding onward
-onward_exited rec s code over = ap (onward_in rec s) over
 
 -- two ways on from a state are one where they agree on every state that the next instruction leads to
 same_after : (s : State) (listed : Option BreakKind) (on : Onward) (f g : State → Option Break) → ((t : State) → on ≡ Goes t → f t ≡ g t) → listed_or s listed (break_after s f on) ≡ listed_or s listed (break_after s g on)
@@ -77,7 +73,7 @@ break-at : (opened : State) (rec : Recording) (a b c m : ℕ) (s : State) (diff 
     ≡ option_or (at_count s (option_or (as_checkpoint_break b diff) (early_exit rec status))) (epoch_break_from opened.pages rec b c (recorded_state rec opened b) (suc m))
 break-at opened rec a b c m s (Some diff) status is opens cut runs count same running = refl
 break-at opened rec a b c m s None (Exited code) is opens cut runs count same running =
-    ap (break_after s (λ t. epoch_break_from opened.pages rec a c t m)) (onward_exited rec s code running)
+    ap (break_after s (λ t. epoch_break_from opened.pages rec a c t m)) (onward_over rec s code running)
 break-at opened rec a b c m s None Running is opens cut runs count same running =
     let some : 0 < b = omega (arith, cut.below) in
     let recorded : s ≡ recorded_state rec opened b = same_state rec opened b s is opens runs some running count same in

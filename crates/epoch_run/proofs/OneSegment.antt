@@ -15,6 +15,10 @@ use Rattle.rec_format.specs.Compared.{checkpoint_break}
 use Rattle.epoch_run.specs.Records.{Tracers}
 use Rattle.epoch_run.specs.Epochs.{epoch_size, epoch_break_from, epoch_break, epoch_records_from, epoch_records, closing_break, closing_records}
 use Rattle.sl_model.specs.State.{IsOpening}
+use Rattle.checkpoints.specs.RecordedRun.{opened_of}
+use Rattle.epoch_run.specs.declared.plan.Plan.{Plan}
+use Rattle.epoch_run.specs.declared.plan.Worker.{Worker}
+use Rattle.epoch_run.specs.Plans.{state_in}
 use Rattle.epoch_run.specs.Segments.{IsUnderWay, BrokeOff, StopsAt}
 use Rattle.rec_format.proofs.RecordedStates.{count-recorded}
 use Rattle.epoch_run.proofs.Arrived.{run-zero}
@@ -28,6 +32,11 @@ pub record IsSegment (rec : Recording) (opened : State) (j : ℕ) (s : State) (u
   pub within : j < end_place rec
   pub at : s ≡ recorded_state rec opened j
   pub last : upto ≡ recorded_count rec (j + 1)
+
+-- the interval that a worker stands at
+pub of_plan : (plan : Plan) (j : ℕ) (worker : Worker) (upto : ℕ) → j < end_place plan.checkpoints.rec → state_in worker ≡ recorded_state plan.checkpoints.rec (opened_of plan.checkpoints) j → upto ≡ recorded_count plan.checkpoints.rec (j + 1)
+    → IsSegment plan.checkpoints.rec (opened_of plan.checkpoints) j (state_in worker) upto
+of_plan plan j worker upto within at last = record { value = plan.checkpoints.is_value; opens = plan.checkpoints.opens; within = within; at = at; last = last }
 
 module _ (rec : Recording) (opened : State) (j : ℕ) (s : State) (upto : ℕ) (is : IsSegment rec opened j s upto) where
   start : s.count ≡ recorded_count rec j

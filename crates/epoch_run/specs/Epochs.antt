@@ -1,5 +1,6 @@
--- What an epoch of a recording gives: the stretch from one checkpoint to a later one, replayed by itself from the state
--- that the first of them records. Checkpoint 0 is the opening state, and the last is that of the end.
+-- What an epoch of a recording gives: the stretch from one checkpoint to a later one, replayed by
+-- itself from the state that the first of them records. Checkpoint 0 is the opening state, and the
+-- last is that of the end.
 use Rattle.std.specs.Prelude.{ℕ, zero, suc, ◌+◌, ◌-◌, ◌==◌, List, [], ◌++◌, take, drop, Option, Some, None, Result, Ok, Err, if◌then◌else◌}
 use Rattle.std.specs.Option.{option_or}
 use Rattle.sl_model.specs.declared.run_state.RunState.{RunState}
@@ -35,14 +36,14 @@ abbrev pub early_exit : Recording → RunState → Option BreakKind
 early_exit rec Running = None
 early_exit rec (Exited code) = Some (EarlyEnd rec.last.count)
 
--- What is tried at checkpoint b once it was compared: at the end's the end and the calls, at any other an exit. A trap
--- there and all that comes later belong to the next epoch.
+-- What is tried at checkpoint b once it was compared: at the end's the end and the calls, at any
+-- other an exit. A trap there and all that comes later belong to the next epoch.
 abbrev pub closing_break : Recording → ℕ → State → Option BreakKind
 closing_break rec b s =
     if b == end_place rec then end_break rec s else early_exit rec s.status
 
--- The first break of the epoch from checkpoint a to checkpoint b, from a state on with so many instructions left before
--- b's count. Checkpoint a is not compared.
+-- The first break of the epoch from checkpoint a to checkpoint b, from a state on with so many
+-- instructions left before b's count. Checkpoint a is not compared.
 unfoldable pub epoch_break_from : Pages → Recording → ℕ → ℕ → State → ℕ → Option Break
 epoch_break_from opened rec a b s zero =
     at_count s

@@ -3,4 +3,4 @@ pub mod Epochs
 pub mod EpochLaws
 pub mod Segments
 pub mod Plans
-pub mod OneProof
+pub mod Loaded

@@ -8,15 +8,18 @@ use Rattle.tracer_lang.specs.declared.record.Record.{Record}
 use Rattle.tracer_lang.specs.declared.record.TracerEnd.TheVariants.{Done}
 use Rattle.replay.specs.Run.{Onward, Goes, Breaks, onward}
 
--- what the tracepoints of a script leave at a state, in the order of the script: nothing where none fires
+-- what the tracepoints of a script leave at a state, in the order of the script: nothing where none
+-- fires
 abbrev pub Tracers : Type 0
 Tracers = State → List Record
 
 -- a tracepoint at an address, which emits one register
 abbrev pub emit_at : ℕ → ℕ → Tracers
 emit_at address r s =
-    if s.pc == address then record { count = s.count; point = 0; pc = s.pc; words = register s r ∷ []; outcome = Done } ∷ []
-    else []
+    let words : List ℕ = register s r ∷ [] in
+    let left : Record =
+    record { count = s.count; point = 0; pc = s.pc; words = words; outcome = Done } in
+    if s.pc == address then left ∷ [] else []
 
 -- at the recorded end tracepoints fire where the end is a trap
 abbrev pub at_end : Tracers → End → State → List Record
@@ -29,11 +32,12 @@ abbrev pub records_after : (State → List Record) → Onward → List Record
 records_after follow (Goes t) = follow t
 records_after follow (Breaks kind) = []
 
--- the records from a state on, with so many instructions left before the recorded end: each tracepoint fires before
--- the instruction at its place
+-- the records from a state on, with so many instructions left before the recorded end: each
+-- tracepoint fires before the instruction at its place
 unfoldable pub records_from : Recording → Tracers → State → ℕ → List Record
 records_from rec tracers s zero = at_end tracers rec.end s
-records_from rec tracers s (suc n) = tracers s ++ records_after (λ t. records_from rec tracers t n) (onward rec s)
+records_from rec tracers s (suc n) =
+    tracers s ++ records_after (λ t. records_from rec tracers t n) (onward rec s)
 
 -- the records of a recording that is replayed from this state
 abbrev pub records : Recording → Tracers → State → List Record

@@ -14,7 +14,8 @@ use Rattle.epoch_run.specs.Epochs.{epoch_break_from, epoch_records_from}
 
 -- An interval that is left with these instructions at a state is left with what it began with, less
 -- what it recorded.
-pub record IsUnderWay (rec : Recording) (tracers : Tracers) (first : State) (total : ℕ) (s : State) (left : ℕ) (old new : List Record) : Type 0 where
+pub record IsUnderWay (rec : Recording) (tracers : Tracers) (first : State) (total : ℕ)
+    (s : State) (left : ℕ) (old new : List Record) : Type 0 where
   pub breaks : (opened : Pages) (a b : ℕ) → a + 1 ≡ b
       → epoch_break_from opened rec a b first total ≡ epoch_break_from opened rec a b s left
   pub records : (b : ℕ)
@@ -35,10 +36,12 @@ stopped_at count (refused.Fault kind) = refused.Fault (record { count = count; k
 abbrev pub BrokeOff : Recording → State → ℕ → Refused Break → Type 0
 BrokeOff rec first total refused.Memory = ⊤
 BrokeOff rec first total (refused.Fault broken) =
-    (opened : Pages) (a b : ℕ) → a + 1 ≡ b → epoch_break_from opened rec a b first total ≡ Some broken
+    (opened : Pages) (a b : ℕ) → a + 1 ≡ b
+    → epoch_break_from opened rec a b first total ≡ Some broken
 
 -- an interval came to the count of its second checkpoint, or it has this break before it
-abbrev pub CameTo : Recording → Tracers → State → ℕ → State → List Record → List Record → Part → Type 0
+abbrev pub CameTo : Recording → Tracers → State → ℕ → State → List Record → List Record
+    → Part → Type 0
 CameTo rec tracers first total s old new (Ok done) = IsUnderWay rec tracers first total s 0 old new
 CameTo rec tracers first total s old new (Err stop) = BrokeOff rec first total stop
 

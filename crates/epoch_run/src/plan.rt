@@ -3,11 +3,9 @@
 ghost use Rattle.std.specs.Prelude.{◌≡◌, [], IfOk};
 ghost use Rattle.std.specs.FinMap.{empty};
 ghost use Rattle.rec_format.specs.Recorded.{end_place};
-ghost use Rattle.replay.specs.Opening.{opening};
-ghost use Rattle.checkpoints.specs.RecordedRun.{opened_of};
 ghost use Rattle.epoch_cut.specs.Places.{IsCutting};
 ghost use Rattle.epoch_run.specs.EpochLaws.{epochs_of};
-ghost use Rattle.epoch_run.specs.OneProof.{states-set};
+ghost use Rattle.epoch_run.specs.Loaded.{IsLoaded, IsLoaded-prop};
 
 use checkpoints::Checkpoints;
 use elf_image::Image;
@@ -30,7 +28,7 @@ pub struct Plan {
     /// Where the tracer records register a0.
     pub address: u32,
     ghost no_calls: { checkpoints.rec.calls ≡ [] },
-    ghost loaded: { opened_of checkpoints ≡ opening image checkpoints.rec.args } by { states-set (opened_of checkpoints) (opening image checkpoints.rec.args) },
+    ghost loaded: { IsLoaded image checkpoints } by { IsLoaded-prop image checkpoints },
     ghost cuts: { IsCutting (end_place checkpoints.rec) cutting },
 }
 

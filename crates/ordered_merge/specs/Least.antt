@@ -9,7 +9,9 @@ use Rattle.ordered_merge.specs.declared.least.BrokenEpoch.{BrokenEpoch}
 -- this is the least epoch that broke, or none did
 abbrev pub IsLeast : List Post → Option BrokenEpoch → Type 0
 IsLeast posts None = (k : ℕ) → ¬ (BrokeAt posts k)
-IsLeast posts (Some broken) = Contains posts (post_of broken.epoch (Broke broken.first)) × ((k : ℕ) → BrokeAt posts k → broken.epoch ≤ k)
+IsLeast posts (Some broken) =
+    Contains posts (post_of broken.epoch (Broke broken.first))
+    × ((k : ℕ) → BrokeAt posts k → broken.epoch ≤ k)
 
 -- the lesser of two epochs that broke, where there are two
 abbrev pub lesser_of : Option BrokenEpoch → BrokenEpoch → Option BrokenEpoch

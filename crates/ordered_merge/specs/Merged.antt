@@ -1,8 +1,6 @@
 -- What the epochs of a run come to together.
-use Rattle.std.specs.Prelude.{◌≡◌, ◌≢◌, ℕ, ◌<◌, ⊤, List, [], ◌∷◌, Option, Some, None, Result, Ok, Err, slice_get}
+use Rattle.std.specs.Prelude.{◌≡◌, ◌≢◌, ℕ, ◌<◌, List, [], ◌∷◌, Option, Some, None, Result, Ok, Err, slice_get}
 use Rattle.std.specs.List.{filter_map, flat_map}
-use Rattle.sl_base.specs.declared.refused.Refused.{Refused}
-use Rattle.sl_base.specs.declared.refused.Refused.TheVariants as refused
 use Rattle.call_log.specs.declared.breaks.Break.{Break}
 use Rattle.tracer_lang.specs.declared.record.Record.{Record}
 use Rattle.epoch_core.specs.declared.post.PostValue.{PostValue}
@@ -39,15 +37,3 @@ pub record BreaksFirstAt (values : List PostValue) (k : ℕ) (first : Break) : T
 -- no epoch broke
 abbrev pub NoneBroke : List PostValue → Type 0
 NoneBroke values = (k : ℕ) (first : Break) → slice_get values k ≢ Some (Broke first)
-
--- ---- what a call says of it
-
--- a refusal is for the break, or memory was wanting
-abbrev pub Fails : Refused Break → Result (List Record) Break → Type 0
-Fails refused.Memory whole = ⊤
-Fails (refused.Fault first) whole = whole ≡ Err first
-
--- what a call returned is the merge, unless memory was wanting
-abbrev pub Tells : Result (List Record) (Refused Break) → Result (List Record) Break → Type 0
-Tells (Ok records) whole = whole ≡ Ok records
-Tells (Err e) whole = Fails e whole

@@ -1,7 +1,8 @@
 ghost use Rattle.std.specs.Prelude.{◌≡◌, List, length};
 ghost use Rattle.epoch_core.specs.declared.post.PostValue.{PostValue as Value};
 ghost use Rattle.epoch_core.specs.Posts.{Posted};
-ghost use Rattle.ordered_merge.specs.Merged.{merged, Tells};
+ghost use Rattle.sl_base.specs.Refusals.{Tells};
+ghost use Rattle.ordered_merge.specs.Merged.{merged};
 
 use crate::least::least_break;
 use crate::parts::{by_epoch, joined};

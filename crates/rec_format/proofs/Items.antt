@@ -4,7 +4,8 @@ use Rattle.sl_base.specs.declared.refused.Refused.{Refused}
 use Rattle.sl_base.specs.declared.refused.Refused.TheVariants as refused
 use Rattle.rec_format.specs.declared.fault.RecFault.{RecFault}
 use Rattle.rec_format.specs.Place.{Rest}
-use Rattle.rec_format.specs.Reading.{Fails, items_at}
+use Rattle.sl_base.specs.Refusals.{Fails}
+use Rattle.rec_format.specs.Reading.{items_at}
 
 module _ {X : Type 0} (item : List X → Rest → Result (X × Rest) RecFault) (count i : ℕ) (before : List X) (at : Rest) (total : Result (List X × Rest) RecFault) (so_far : items_at item (count - i) before at ≡ total) where
   -- one more item

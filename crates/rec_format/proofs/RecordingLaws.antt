@@ -11,7 +11,8 @@ use Rattle.rec_format.specs.declared.recording.Recording.{Recording}
 use Rattle.rec_format.specs.Place.{Rest, start}
 use Rattle.rec_format.specs.Rules.{last_or, count_of, highest_load_addr, listings, IsRecordingValue}
 use Rattle.rec_format.specs.Spelling.{name, version, word, sized, counted, call, checkpoint, end_of_run, spelling, IsRecording}
-use Rattle.rec_format.specs.Reading.{Tells, text_at, word_up_to, sized_up_to, args_at, calls_at, checkpoints_at, checkpoint_at, end_at, recording_at, reading}
+use Rattle.sl_base.specs.Refusals.{Tells}
+use Rattle.rec_format.specs.Reading.{text_at, word_up_to, sized_up_to, args_at, calls_at, checkpoints_at, checkpoint_at, end_at, recording_at, reading}
 use Rattle.rec_format.proofs.Fields.{IsBytes, Takes, Takes-then, Again, step, from, ok_is, refuse_ok, text_takes, text_again, word_up_to_takes, word_up_to_again, sized_takes, sized_again}
 use Rattle.rec_format.proofs.CallLaws.{args_take, args_again, calls_take, calls_again, end_takes, end_again}
 use Rattle.rec_format.proofs.CheckpointLaws.{checkpoint_takes, checkpoint_again, checkpoints_take, checkpoints_again}

@@ -21,4 +21,6 @@ bytes_at all i = option_map (λ l. l.bytes.now) (slice_get all i)
 
 -- each page has the index of its last listing
 abbrev pub IsIndex : BTreeMap ℕ ℕ → List Listing → Type 0
-IsIndex last all = (number : ℕ) → MatchOption (get nat_cmp last number) (last_listing number (seen all) ≡ None) (λ i. (i < length all) × (last_listing number (seen all) ≡ bytes_at all i))
+IsIndex last all =
+    (number : ℕ) → MatchOption (get nat_cmp last number) (last_listing number (seen all) ≡ None)
+    (λ i. (i < length all) × (last_listing number (seen all) ≡ bytes_at all i))

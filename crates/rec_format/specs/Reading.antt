@@ -3,7 +3,7 @@ use Rattle.std.specs.Prelude.{◌≡◌, ℕ, zero, suc, ◌+◌, Bool, false, L
 use Rattle.std.specs.Int.{w32, w64, from_le_bytes}
 use Rattle.std.specs.Str.{bytes_eq}
 use Rattle.sl_base.specs.declared.refused.Refused.{Refused}
-use Rattle.sl_base.specs.declared.refused.Refused.TheVariants as refused
+use Rattle.sl_base.specs.Refusals.{Fails}
 use Rattle.call_log.specs.declared.entry.CallEntry.{CallEntry}
 use Rattle.call_log.specs.declared.entry.End.{End}
 use Rattle.call_log.specs.declared.entry.End.TheVariants as ends
@@ -25,20 +25,11 @@ abbrev pub ◌>>=◌ : {A B : Type 0} → Result A RecFault → (A → Result B 
 
 -- ---- what the readers of the code say
 
--- an error is the one that reading gives, or memory ran out
-abbrev pub Fails : {Y : Type 0} → Refused RecFault → Result Y RecFault → Type 0
-Fails refused.Memory read = Unit {0}
-Fails (refused.Fault f) read = read ≡ Err f
-
 -- what a reader returned and where it then stands are what reading gives, unless memory ran out
-abbrev pub Gives : {X Y : Type 0} → (X → Y) → Result X (Refused RecFault) → Rest → Result (Y × Rest) RecFault → Type 0
+abbrev pub Gives : {X Y : Type 0} → (X → Y) → Result X (Refused RecFault) → Rest
+    → Result (Y × Rest) RecFault → Type 0
 Gives view (Ok x) after read = read ≡ Ok (view x, after)
 Gives view (Err e) after read = Fails e read
-
--- what a call returned is what reading gives, unless memory ran out
-abbrev pub Tells : {X : Type 0} → Result X (Refused RecFault) → Result X RecFault → Type 0
-Tells (Ok x) read = read ≡ Ok x
-Tells (Err e) read = Fails e read
 
 -- ---- fields
 
@@ -53,7 +44,8 @@ refuse is_broken at cause x = if is_broken then Err (fault at cause) else Ok x
 -- a run of bytes
 unfoldable pub run_at : ℕ → Rest → Result (List ℕ × Rest) RecFault
 run_at len at =
-    refuse (nat_lt (length at.bytes) len) at Short (take len at.bytes, record { place = at.place + len; bytes = drop len at.bytes })
+    refuse (nat_lt (length at.bytes) len) at Short
+    (take len at.bytes, record { place = at.place + len; bytes = drop len at.bytes })
 
 -- these very bytes
 unfoldable pub text_at : List ℕ → RecCause → Rest → Result (List ℕ × Rest) RecFault
@@ -85,7 +77,8 @@ sized_up_to most at = do
   run_at len.0 len.1
 
 -- so many more items, which may depend on those before
-unfoldable pub items_at : {X : Type 0} → (List X → Rest → Result (X × Rest) RecFault) → ℕ → List X → Rest → Result (List X × Rest) RecFault
+unfoldable pub items_at : {X : Type 0} → (List X → Rest → Result (X × Rest) RecFault)
+    → ℕ → List X → Rest → Result (List X × Rest) RecFault
 items_at item zero before at = Ok (before, at)
 items_at item (suc n) before at = do
   next ← item before at
@@ -115,7 +108,14 @@ call_at at = do
   args ← words_at 6 number.1
   result ← word_at args.1
   bytes ← sized_up_to MOST_CALL_BYTES result.1
-  Ok (record { call = record { number = number.0; args = args.0 }; result = result.0; bytes = bytes.0 }, bytes.1)
+  Ok (
+    record {
+      call = record { number = number.0; args = args.0 };
+      result = result.0;
+      bytes = bytes.0;
+    },
+    bytes.1,
+  )
 
 unfoldable pub calls_at : Rest → Result (List CallEntry × Rest) RecFault
 calls_at at = do
@@ -143,7 +143,8 @@ end_at at = do
 -- a number that is to be above the one before it in its list
 abbrev pub risen : Option ℕ → RecCause → Rest → ℕ × Rest → Result (ℕ × Rest) RecFault
 risen None same at n = Ok n
-risen (Some before) same at n = if nat_lt n.0 before then Err (fault at Order) else refuse (n.0 == before) at same n
+risen (Some before) same at n =
+    if nat_lt n.0 before then Err (fault at Order) else refuse (n.0 == before) at same n
 
 unfoldable pub page_number_at : Option ℕ → Rest → Result (ℕ × Rest) RecFault
 page_number_at before at = do
@@ -160,12 +161,14 @@ unfoldable pub page_at : Option ℕ → List ListedPage → Rest → Result (Lis
 page_at before earlier at = do
   number ← page_number_at before at
   bytes ← run_at PAGE_BYTES number.1
-  refuse (is_listed (last_listing number.0 earlier) bytes.0) at UnneededPage (record { number = number.0; bytes = bytes.0 }, bytes.1)
+  refuse (is_listed (last_listing number.0 earlier) bytes.0) at UnneededPage
+      (record { number = number.0; bytes = bytes.0 }, bytes.1)
 
 unfoldable pub pages_at : List ListedPage → Rest → Result (List ListedPage × Rest) RecFault
 pages_at earlier at = do
   number ← word_up_to MOST_PAGES at
-  items_at (λ before. page_at (last_or None number_of before) (earlier ++ before)) number.0 [] number.1
+  items_at (λ before. page_at (last_or None number_of before) (earlier ++ before))
+      number.0 [] number.1
 
 unfoldable pub count_at : Option ℕ → Rest → Result (ℕ × Rest) RecFault
 count_at before at = do
@@ -173,7 +176,8 @@ count_at before at = do
   known ← refuse (nat_lt MOST_COUNT count.0) at Range count
   risen before Order at known
 
-unfoldable pub checkpoint_at : Option ℕ → List ListedPage → Rest → Result (CheckpointData × Rest) RecFault
+unfoldable pub checkpoint_at : Option ℕ → List ListedPage → Rest
+    → Result (CheckpointData × Rest) RecFault
 checkpoint_at before earlier at = do
   count ← count_at before at
   pc ← word_at count.1
@@ -182,12 +186,24 @@ checkpoint_at before earlier at = do
   brk_end ← word_at brk.1
   next_call ← word_at brk_end.1
   pages ← pages_at earlier next_call.1
-  Ok (record { count = count.0; pc = pc.0; x = x.0; brk = brk.0; brk_end = brk_end.0; next_call = next_call.0; pages = pages.0 }, pages.1)
+  Ok (
+    record {
+      count = count.0;
+      pc = pc.0;
+      x = x.0;
+      brk = brk.0;
+      brk_end = brk_end.0;
+      next_call = next_call.0;
+      pages = pages.0;
+    },
+    pages.1,
+  )
 
 unfoldable pub checkpoints_at : Rest → Result (List CheckpointData × Rest) RecFault
 checkpoints_at at = do
   number ← word_up_to MOST_CHECKPOINTS at
-  items_at (λ before. checkpoint_at (last_or (Some 0) count_of before) (listings before)) number.0 [] number.1
+  items_at (λ before. checkpoint_at (last_or (Some 0) count_of before) (listings before))
+      number.0 [] number.1
 
 -- ---- the whole
 
@@ -203,7 +219,19 @@ recording_at at = do
   checkpoints ← checkpoints_at calls.1
   end ← end_at checkpoints.1
   last ← checkpoint_at (last_or None count_of checkpoints.0) (listings checkpoints.0) end.1
-  Ok (record { kind = kind.0; load_addr = load_addr.0; image = image.0; args = args.0; calls = calls.0; checkpoints = checkpoints.0; end = end.0; last = last.0 }, last.1)
+  Ok (
+    record {
+      kind = kind.0;
+      load_addr = load_addr.0;
+      image = image.0;
+      args = args.0;
+      calls = calls.0;
+      checkpoints = checkpoints.0;
+      end = end.0;
+      last = last.0;
+    },
+    last.1,
+  )
 
 -- the recording that the bytes spell, or their first fault
 unfoldable pub reading : List ℕ → Result Recording RecFault

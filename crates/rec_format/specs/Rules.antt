@@ -1,6 +1,6 @@
 -- The rules that a recorded run meets, each of them about the value alone.
 use Rattle.std.specs.Prelude.{◌≡◌, ◌≢◌, ℕ, ◌+◌, ◌-◌, ◌^◌, ◌<◌, ◌≤◌, Bool, true, false, ◌||◌, List, [], ◌∷◌, ◌++◌, length, map, reverse, Option, Some, None, nat_le, ◌==◌, if◌then◌else◌, ⊤}
-use Rattle.std.specs.List.{AllByRecursion, flat_map, find, list_any, sum_by}
+use Rattle.std.specs.List.{All, AllByRecursion, flat_map, find, list_any, sum_by}
 use Rattle.std.specs.Option.{option_map}
 use Rattle.call_log.specs.declared.entry.CallEntry.{CallEntry}
 use Rattle.call_log.specs.declared.entry.End.{End}
@@ -90,16 +90,25 @@ pub record IsCheckpoint (checkpoint : CheckpointData) : Type 0 where
 
 -- the bytes of the last of these listings of a page
 abbrev pub last_listing : ℕ → List ListedPage → Option (List ℕ)
-last_listing number listings = option_map (λ page. page.bytes) (find (λ page. page.number == number) (reverse listings))
+last_listing number listings =
+    option_map (λ page. page.bytes) (find (λ page. page.number == number) (reverse listings))
 
 -- each page differs from its last listing before
 abbrev pub AreNeeded : List ListedPage → List ListedPage → Type 0
 AreNeeded earlier [] = ⊤
-AreNeeded earlier (page ∷ pages) = (last_listing page.number earlier ≢ Some page.bytes) × AreNeeded (earlier ++ page ∷ []) pages
+AreNeeded earlier (page ∷ pages) =
+    (last_listing page.number earlier ≢ Some page.bytes) × AreNeeded (earlier ++ page ∷ []) pages
 
 -- the pages that checkpoints list, in order
 abbrev pub listings : List CheckpointData → List ListedPage
 listings checkpoints = flat_map (λ checkpoint. checkpoint.pages) checkpoints
+
+-- ---- bytes
+
+-- every byte of a call's data is one; an entry in memory has no other, but in a law a number has no
+-- range
+abbrev pub HasBytes : CallEntry → Type 0
+HasBytes entry = All (λ b. b < 256) entry.bytes
 
 -- ---- the whole
 

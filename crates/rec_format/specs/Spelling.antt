@@ -34,15 +34,17 @@ unfoldable pub version : List ℕ
 version = codes "1"
 
 unfoldable pub call : CallEntry → List ℕ
-call entry = word entry.call.number ++ flat_map word entry.call.args ++ word entry.result ++ sized entry.bytes
+call entry =
+    word entry.call.number ++ flat_map word entry.call.args ++ word entry.result
+    ++ sized entry.bytes
 
 unfoldable pub listed_page : ListedPage → List ℕ
 listed_page page = word page.number ++ page.bytes
 
 unfoldable pub checkpoint : CheckpointData → List ℕ
 checkpoint c =
-    double_word c.count ++ word c.pc ++ flat_map word c.x ++ word c.brk ++ word c.brk_end ++ word c.next_call
-    ++ counted listed_page c.pages
+    double_word c.count ++ word c.pc ++ flat_map word c.x ++ word c.brk ++ word c.brk_end
+    ++ word c.next_call ++ counted listed_page c.pages
 
 unfoldable pub end_of_run : End → List ℕ
 end_of_run (ends.Exited code) = word 0 ++ word code
@@ -51,8 +53,9 @@ end_of_run ends.Stopped = word 2 ++ word 0
 
 unfoldable pub spelling : Recording → List ℕ
 spelling rec =
-    name ++ version ++ word rec.kind ++ word rec.load_addr ++ sized rec.image ++ counted sized rec.args
-    ++ counted call rec.calls ++ counted checkpoint rec.checkpoints ++ end_of_run rec.end ++ checkpoint rec.last
+    name ++ version ++ word rec.kind ++ word rec.load_addr ++ sized rec.image
+    ++ counted sized rec.args ++ counted call rec.calls ++ counted checkpoint rec.checkpoints
+    ++ end_of_run rec.end ++ checkpoint rec.last
 
 -- the bytes are the spelling of a recorded run that meets the rules
 pub record IsRecording (bytes : List ℕ) (rec : Recording) : Type 0 where

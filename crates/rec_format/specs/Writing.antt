@@ -10,4 +10,5 @@ use Rattle.rec_format.specs.Spelling.{spelling}
 -- the spelling is too long and this is its length, or it is not too long and memory ran out
 abbrev pub IsRefusedFor : Recording → Refused TooLarge → Type 0
 IsRefusedFor rec refused.Memory = length (spelling rec) ≤ MOST_BYTES
-IsRefusedFor rec (refused.Fault large) = (large.length ≡ length (spelling rec)) × (MOST_BYTES < length (spelling rec))
+IsRefusedFor rec (refused.Fault large) =
+    (large.length ≡ length (spelling rec)) × (MOST_BYTES < length (spelling rec))

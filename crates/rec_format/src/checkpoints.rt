@@ -102,7 +102,8 @@ pub fn checkpoint<'a>(
     before: Option<u64>,
     listings: &mut Listings<'a>,
 ) -> Result<CheckpointData, Refused<RecFault>>
-    ensures read { Gives (λ checkpoint. checkpoint) result cursor.new (checkpoint_at before listings.old cursor.old) }
+    ensures read { let due = checkpoint_at before listings.old cursor.old in
+        Gives (λ checkpoint. checkpoint) result cursor.new due }
     ensures listed { IfOk result (λ checkpoint. listings.new ≡ listings.old ++ checkpoint.pages) }
 {
     let count = count(cursor, before)?;
@@ -131,7 +132,8 @@ pub fn checkpoints<'a>(
     listings: &mut Listings<'a>,
 ) -> Result<Seq<CheckpointData>, Refused<RecFault>>
     requires { listings.old ≡ [] }
-    ensures read { Gives (λ checkpoints. checkpoints) result cursor.new (checkpoints_at cursor.old) }
+    ensures read { let due = checkpoints_at cursor.old in
+        Gives (λ checkpoints. checkpoints) result cursor.new due }
     ensures listed { IfOk result (λ checkpoints. listings.new ≡ all_listings checkpoints) }
 {
     let number = cursor.word_up_to(MOST_CHECKPOINTS)?;

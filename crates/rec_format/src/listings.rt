@@ -56,7 +56,8 @@ impl<'a> Listings<'a> {
 
     /// Adds a listing at the end.
     pub fn add(&mut self, number: u32, bytes: &'a [u8]) -> Result<(), AllocError>
-        ensures { OnOk result (self.new ≡ self.old ++ record { number = number; bytes = bytes.now } ∷ []) }
+        ensures { OnOk result
+            (self.new ≡ self.old ++ record { number = number; bytes = bytes.now } ∷ []) }
     {
         self.all.reserve(1)?;
         self.last.insert(number, self.all.len())?;

@@ -2,7 +2,8 @@
 
 ghost use Rattle.std.specs.Prelude.{◌≡◌, ℕ, List, IfOk, Ok};
 ghost use Rattle.rec_format.specs.Spelling.{IsRecording};
-ghost use Rattle.rec_format.specs.Reading.{Gives, Tells, recording_at, reading};
+ghost use Rattle.sl_base.specs.Refusals.{Tells};
+ghost use Rattle.rec_format.specs.Reading.{Gives, recording_at, reading};
 ghost use Rattle.rec_format.specs.declared.recording.Recording.{Recording};
 
 use crate::calls::{args, calls, end, kept};
@@ -79,5 +80,6 @@ pub fn read_recording(alloc: Global, bytes: &[u8]) -> Result<Recording, Refused<
 
 /// A law: no two recordings have one spelling.
 pub fn spelled_apart()
-    ensures { (bytes : List ℕ) (a b : Recording) → IsRecording bytes a → IsRecording bytes b → a ≡ b }
+    ensures { (bytes : List ℕ) (a b : Recording)
+        → IsRecording bytes a → IsRecording bytes b → a ≡ b }
 {}

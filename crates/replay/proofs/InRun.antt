@@ -45,12 +45,12 @@ heap_grows start old new number first second =
     pages_grow : (a b c n : ℕ) → a ≤ b → b ≤ c → is_among a c n ≡ (is_among a b n || is_among b c n)
     pages_grow a b c n below above = grind (arith, nat_tests)
 
-record IsNewEnd (s : State) (limit new : ℕ) : Type 0 where
-  page : new % 4096 ≡ 0
-  from : s.brk_end ≤ new
-  to : new ≤ limit
+pub record IsNewEnd (s : State) (limit new : ℕ) : Type 0 where
+  pub page : new % 4096 ≡ 0
+  pub from : s.brk_end ≤ new
+  pub to : new ≤ limit
 
-new_end : (s : State) (address : ℕ) (allowed : Bool) → is_break s address ≡ allowed → s.brk_end % 4096 ≡ 0 → s.layout.heap_limit % 4096 ≡ 0 → s.brk_end ≤ s.layout.heap_limit → IsNewEnd s s.layout.heap_limit (if allowed then max s.brk_end (round_up 4096 address) else s.brk_end)
+pub new_end : (s : State) (address : ℕ) (allowed : Bool) → is_break s address ≡ allowed → s.brk_end % 4096 ≡ 0 → s.layout.heap_limit % 4096 ≡ 0 → s.brk_end ≤ s.layout.heap_limit → IsNewEnd s s.layout.heap_limit (if allowed then max s.brk_end (round_up 4096 address) else s.brk_end)
 new_end s address false is page limit below = record { page = page; from = omega arith; to = below }
 new_end s address true is page limit below =
     let within : address ≤ s.layout.heap_limit = leb-true address s.layout.heap_limit (and_parts (nat_le s.layout.brk_start address) (nat_le address s.layout.heap_limit) is).1 in

@@ -6,3 +6,4 @@ pub mod OpeningStack
 pub mod LoadedSteps
 pub mod Opens
 pub mod OpeningBytes
+pub mod States

@@ -13,7 +13,8 @@ abbrev pub Advance : Type 0
 Advance = Result (Unit {0}) (Refused BreakKind)
 
 -- there is this divergence, or memory was wanting
-abbrev pub StoppedAt : Onward → Machine → MarkedPages → Refused BreakKind → Machine → MarkedPages → Type 0
+abbrev pub StoppedAt : Onward → Machine → MarkedPages → Refused BreakKind
+    → Machine → MarkedPages → Type 0
 StoppedAt next m f refused.Memory m' f' = ⊤
 StoppedAt next m f (refused.Fault kind) m' f' = (next ≡ Breaks kind) × (m' ≡ m) × (f' ≡ f)
 

@@ -24,7 +24,8 @@ use Rattle.replay.specs.Run.{Onward, Goes, Breaks, onward}
 abbrev pub listed_break : Pages → Recording → ℕ → List CheckpointData → State → Option BreakKind
 listed_break opened rec k [] s = None
 listed_break opened rec k (checkpoint ∷ checkpoints) s =
-    option_or (if checkpoint.count == s.count then checkpoint_break opened rec k checkpoint s else None)
+    let here = checkpoint_break opened rec k checkpoint s in
+    option_or (if checkpoint.count == s.count then here else None)
     (listed_break opened rec (k + 1) checkpoints s)
 
 -- ---- the end
@@ -77,8 +78,9 @@ abbrev pub break_after : State → (State → Option Break) → Onward → Optio
 break_after s follow (Goes t) = follow t
 break_after s follow (Breaks kind) = at_count s (Some kind)
 
--- The first break from a state on with so many instructions left before the recorded end. At each count the checkpoint
--- is tried, and then the next instruction or, at the end, the end and the calls.
+-- The first break from a state on with so many instructions left before the recorded end. At each
+-- count the checkpoint is tried, and then the next instruction or, at the end, the end and the
+-- calls.
 unfoldable pub first_break_from : Pages → Recording → State → ℕ → Option Break
 first_break_from opened rec s zero =
     at_count s

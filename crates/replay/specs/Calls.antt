@@ -24,7 +24,9 @@ brk_number = 214
 
 -- the call at an ECALL: its number stands in a7, its arguments in a0 to a5
 abbrev pub call_of : State → Call
-call_of s = record { number = register s 17; args = map (register s) (10 ∷ 11 ∷ 12 ∷ 13 ∷ 14 ∷ 15 ∷ []) }
+call_of s =
+    let args : List ℕ = 10 ∷ 11 ∷ 12 ∷ 13 ∷ 14 ∷ 15 ∷ [] in
+    record { number = register s 17; args = map (register s) args }
 
 abbrev pub arg : Call → ℕ → ℕ
 arg call i = slice_index call.args i
@@ -34,7 +36,9 @@ is_exit call = call.number == exit_number || call.number == exit_group_number
 
 -- the calls that the outside answers
 abbrev pub is_outside : Call → Bool
-is_outside call = call.number == read_number || call.number == write_number || call.number == getrandom_number
+is_outside call =
+    call.number == read_number || call.number == write_number
+    || call.number == getrandom_number
 
 -- where the bytes of such a call stand, and how many there are at most
 abbrev pub buffer : Call → ℕ
@@ -56,15 +60,17 @@ brk_answer s address = if is_break s address then address else s.brk
 
 -- the end of the mapped heap after it
 abbrev pub brk_mapped_end : State → ℕ → ℕ
-brk_mapped_end s address = if is_break s address then max s.brk_end (round_up 4096 address) else s.brk_end
+brk_mapped_end s address =
+    if is_break s address then max s.brk_end (round_up 4096 address) else s.brk_end
 
 -- the state after it: zeros are mapped up to the break
 abbrev pub brk_done : State → ℕ → State
 brk_done s address =
+    let new = brk_mapped_end s address in
     record s {
       brk = brk_answer s address;
-      brk_end = brk_mapped_end s address;
-      pages = map_pages s.pages (s.brk_end / 4096) (brk_mapped_end s address / 4096 - s.brk_end / 4096);
+      brk_end = new;
+      pages = map_pages s.pages (s.brk_end / 4096) (new / 4096 - s.brk_end / 4096);
     }
 
 -- ---- what a program asks
@@ -72,9 +78,10 @@ brk_done s address =
 -- the result that the machine decides, and None where it is the outside's
 abbrev pub fixed_result : State → Call → Option ℕ
 fixed_result s call =
-    if is_outside call
-    then (if is_some (bytes_at s.pages (buffer call) (room call)) then None else Some (error_result 14))
-    else (if call.number == brk_number then Some (brk_answer s (arg call 0)) else Some (error_result 38))
+    let is_mapped = is_some (bytes_at s.pages (buffer call) (room call)) in
+    if is_outside call then (if is_mapped then None else Some (error_result 14))
+    else (if call.number == brk_number then Some (brk_answer s (arg call 0))
+    else Some (error_result 38))
 
 -- the bytes that a write gives, which are mapped
 abbrev pub given : State → Call → List ℕ
@@ -101,7 +108,9 @@ exited s = record (gone_to s (after s)) { status = Exited (register s 10) }
 
 -- the data of a read and of random bytes stand in memory
 abbrev pub data_done : State → Call → List ℕ → State
-data_done s call bytes = if call.number == write_number then s else record s { pages = set_bytes s.pages (buffer call) bytes }
+data_done s call bytes =
+    if call.number == write_number then s
+    else record s { pages = set_bytes s.pages (buffer call) bytes }
 
 -- what a call changes beside a0
 abbrev pub call_done : State → Call → List ℕ → State
@@ -112,5 +121,6 @@ call_done s call bytes =
 -- the state after a recorded call that does not differ
 abbrev pub answered : State → CallEntry → State
 answered s entry =
-    let t = gone_to (put_register (call_done s (call_of s) entry.bytes) 10 entry.result) (after s) in
+    let done = call_done s (call_of s) entry.bytes in
+    let t = gone_to (put_register done 10 entry.result) (after s) in
     record t { next_call = s.next_call + 1 }

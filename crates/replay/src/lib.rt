@@ -10,7 +10,7 @@ mod stack;
 
 pub use advancing::advance_one;
 pub use ending::end_break;
-pub use laws::{programs_open, replays_keep_the_layout};
+pub use laws::{programs_open, replays_keep_the_layout, replays_lead_to_states};
 pub use loading::load;
 
 #[cfg(test)]

@@ -3,7 +3,7 @@
 ghost use Rattle.std.specs.Prelude.{◌≡◌, ◌<◌, IfOk};
 ghost use Rattle.std.specs.List.{flat_map};
 ghost use Rattle.epoch_run.specs.Records.{emit_at};
-ghost use Rattle.ordered_merge.specs.Merged.{Tells};
+ghost use Rattle.sl_base.specs.Refusals.{Tells};
 ghost use Rattle.sledge_top.specs.Epochs.{one_after_the_other, run_of};
 
 use call_log::Break;

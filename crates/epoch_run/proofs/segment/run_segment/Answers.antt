@@ -2,86 +2,66 @@ use Rattle.std.proofs.Common.{◌+◌, sym, ◌∙◌}
 use Rattle.std.proofs.lemmas.Result.{err_from_is_err_and}
 use Rattle.checkpoints.specs.RecordedRun.{opened_of}
 use Rattle.epoch_run.specs.Plans.{tracers_of, state_in}
-use Rattle.epoch_run.proofs.OneSegment.{IsSegment, starts_below, segment_steps, segment_stops, segment_closes, segment_records, segment_state}
+use Rattle.epoch_run.proofs.OneSegment.{of_plan, starts_below, segment_steps, segment_stops, segment_closes, segment_records, segment_state}
 use Rattle.epoch_run.proofs.segment.run_segment.Goals as goal
 
 pub run_to-requires-clause-from : goal.run_to-requires-clause-from
 run_to-requires-clause-from g c =
     let plan = c.args.plan.now in
-    let s = state_in c.args.worker.now in
-    let is : IsSegment plan.checkpoints.rec (opened_of plan.checkpoints) c.args.j s c.recorded_count-upto.result =
-    record { value = plan.checkpoints.is_value; opens = plan.checkpoints.opens; within = c.requires.within; at = c.requires.at; last = c.recorded_count-upto.ensures.count } in
-    starts_below plan.checkpoints.rec (opened_of plan.checkpoints) c.args.j s c.recorded_count-upto.result is
+    let is = of_plan plan c.args.j c.args.worker.now c.recorded_count-upto.result c.requires.within c.requires.at c.recorded_count-upto.ensures.count in
+    starts_below plan.checkpoints.rec (opened_of plan.checkpoints) c.args.j (state_in c.args.worker.now) c.recorded_count-upto.result is
 
 pub returns-in_err-run_to-clause-first : goal.returns-in_err-run_to-clause-first
 returns-in_err-run_to-clause-first g c =
     let plan = c.args.plan.now in
-    let s = state_in c.args.worker.now in
-    let is : IsSegment plan.checkpoints.rec (opened_of plan.checkpoints) c.args.j s c.recorded_count-upto.result =
-    record { value = plan.checkpoints.is_value; opens = plan.checkpoints.opens; within = c.requires.within; at = c.requires.at; last = c.recorded_count-upto.ensures.count } in
+    let is = of_plan plan c.args.j c.args.worker.now c.recorded_count-upto.result c.requires.within c.requires.at c.recorded_count-upto.ensures.count in
     let p = err_from_is_err_and c.from_residual.result c.from_residual.ensures.1 in
-    rw (p.1, p.2) (segment_stops plan.checkpoints.rec (opened_of plan.checkpoints) c.args.j s c.recorded_count-upto.result is c.in_err-run_to.field-0.0 c.in_err-run_to.ensures.came)
+    rw (p.1, p.2) (segment_stops plan.checkpoints.rec (opened_of plan.checkpoints) c.args.j (state_in c.args.worker.now) c.recorded_count-upto.result is c.in_err-run_to.field-0.0 c.in_err-run_to.ensures.came)
 
 pub returns-in_err-run_to-clause-steps : goal.returns-in_err-run_to-clause-steps
 returns-in_err-run_to-clause-steps g c =
     let plan = c.args.plan.now in
-    let s = state_in c.args.worker.now in
-    let is : IsSegment plan.checkpoints.rec (opened_of plan.checkpoints) c.args.j s c.recorded_count-upto.result =
-    record { value = plan.checkpoints.is_value; opens = plan.checkpoints.opens; within = c.requires.within; at = c.requires.at; last = c.recorded_count-upto.ensures.count } in
-    segment_steps plan.checkpoints.rec (opened_of plan.checkpoints) c.args.j s c.recorded_count-upto.result is c.args.steps.now c.run_to.new.steps c.run_to.ensures.steps
+    let is = of_plan plan c.args.j c.args.worker.now c.recorded_count-upto.result c.requires.within c.requires.at c.recorded_count-upto.ensures.count in
+    segment_steps plan.checkpoints.rec (opened_of plan.checkpoints) c.args.j (state_in c.args.worker.now) c.recorded_count-upto.result is c.args.steps.now c.run_to.new.steps c.run_to.ensures.steps
 
 pub returns-in-Some-clause-steps : goal.returns-in-Some-clause-steps
 returns-in-Some-clause-steps g c =
     let plan = c.args.plan.now in
-    let s = state_in c.args.worker.now in
-    let is : IsSegment plan.checkpoints.rec (opened_of plan.checkpoints) c.args.j s c.recorded_count-upto.result =
-    record { value = plan.checkpoints.is_value; opens = plan.checkpoints.opens; within = c.requires.within; at = c.requires.at; last = c.recorded_count-upto.ensures.count } in
-    segment_steps plan.checkpoints.rec (opened_of plan.checkpoints) c.args.j s c.recorded_count-upto.result is c.args.steps.now c.run_to.new.steps c.run_to.ensures.steps
+    let is = of_plan plan c.args.j c.args.worker.now c.recorded_count-upto.result c.requires.within c.requires.at c.recorded_count-upto.ensures.count in
+    segment_steps plan.checkpoints.rec (opened_of plan.checkpoints) c.args.j (state_in c.args.worker.now) c.recorded_count-upto.result is c.args.steps.now c.run_to.new.steps c.run_to.ensures.steps
 
 pub returns-in_err-fire_at_checkpoint-clause-steps : goal.returns-in_err-fire_at_checkpoint-clause-steps
 returns-in_err-fire_at_checkpoint-clause-steps g c =
     let plan = c.args.plan.now in
-    let s = state_in c.args.worker.now in
-    let is : IsSegment plan.checkpoints.rec (opened_of plan.checkpoints) c.args.j s c.recorded_count-upto.result =
-    record { value = plan.checkpoints.is_value; opens = plan.checkpoints.opens; within = c.requires.within; at = c.requires.at; last = c.recorded_count-upto.ensures.count } in
-    segment_steps plan.checkpoints.rec (opened_of plan.checkpoints) c.args.j s c.recorded_count-upto.result is c.args.steps.now c.run_to.new.steps c.run_to.ensures.steps
+    let is = of_plan plan c.args.j c.args.worker.now c.recorded_count-upto.result c.requires.within c.requires.at c.recorded_count-upto.ensures.count in
+    segment_steps plan.checkpoints.rec (opened_of plan.checkpoints) c.args.j (state_in c.args.worker.now) c.recorded_count-upto.result is c.args.steps.now c.run_to.new.steps c.run_to.ensures.steps
 
 pub returns-clause-steps : goal.returns-clause-steps
 returns-clause-steps g c =
     let plan = c.args.plan.now in
-    let s = state_in c.args.worker.now in
-    let is : IsSegment plan.checkpoints.rec (opened_of plan.checkpoints) c.args.j s c.recorded_count-upto.result =
-    record { value = plan.checkpoints.is_value; opens = plan.checkpoints.opens; within = c.requires.within; at = c.requires.at; last = c.recorded_count-upto.ensures.count } in
-    segment_steps plan.checkpoints.rec (opened_of plan.checkpoints) c.args.j s c.recorded_count-upto.result is c.args.steps.now c.run_to.new.steps c.run_to.ensures.steps
+    let is = of_plan plan c.args.j c.args.worker.now c.recorded_count-upto.result c.requires.within c.requires.at c.recorded_count-upto.ensures.count in
+    segment_steps plan.checkpoints.rec (opened_of plan.checkpoints) c.args.j (state_in c.args.worker.now) c.recorded_count-upto.result is c.args.steps.now c.run_to.new.steps c.run_to.ensures.steps
 
 pub returns-in-Some-clause-first : goal.returns-in-Some-clause-first
 returns-in-Some-clause-first g c =
     let plan = c.args.plan.now in
-    let s = state_in c.args.worker.now in
-    let is : IsSegment plan.checkpoints.rec (opened_of plan.checkpoints) c.args.j s c.recorded_count-upto.result =
-    record { value = plan.checkpoints.is_value; opens = plan.checkpoints.opens; within = c.requires.within; at = c.requires.at; last = c.recorded_count-upto.ensures.count } in
-    sym (c.in-Some.ensures ∙ segment_closes plan.checkpoints.rec (opened_of plan.checkpoints) c.args.j s c.recorded_count-upto.result is (tracers_of plan) (state_in c.run_to.new.worker) c.args.records.now.items c.run_to.new.records.items c.in_ok-run_to.ensures.came)
+    let is = of_plan plan c.args.j c.args.worker.now c.recorded_count-upto.result c.requires.within c.requires.at c.recorded_count-upto.ensures.count in
+    sym (c.in-Some.ensures ∙ segment_closes plan.checkpoints.rec (opened_of plan.checkpoints) c.args.j (state_in c.args.worker.now) c.recorded_count-upto.result is (tracers_of plan) (state_in c.run_to.new.worker) c.args.records.now.items c.run_to.new.records.items c.in_ok-run_to.ensures.came)
 
 pub returns-clause-first : goal.returns-clause-first
 returns-clause-first g c =
     let plan = c.args.plan.now in
-    let s = state_in c.args.worker.now in
-    let is : IsSegment plan.checkpoints.rec (opened_of plan.checkpoints) c.args.j s c.recorded_count-upto.result =
-    record { value = plan.checkpoints.is_value; opens = plan.checkpoints.opens; within = c.requires.within; at = c.requires.at; last = c.recorded_count-upto.ensures.count } in
-    sym (c.in_default.ensures ∙ segment_closes plan.checkpoints.rec (opened_of plan.checkpoints) c.args.j s c.recorded_count-upto.result is (tracers_of plan) (state_in c.run_to.new.worker) c.args.records.now.items c.run_to.new.records.items c.in_ok-run_to.ensures.came)
+    let is = of_plan plan c.args.j c.args.worker.now c.recorded_count-upto.result c.requires.within c.requires.at c.recorded_count-upto.ensures.count in
+    sym (c.in_default.ensures ∙ segment_closes plan.checkpoints.rec (opened_of plan.checkpoints) c.args.j (state_in c.args.worker.now) c.recorded_count-upto.result is (tracers_of plan) (state_in c.run_to.new.worker) c.args.records.now.items c.run_to.new.records.items c.in_ok-run_to.ensures.came)
 
 pub returns-clause-records : goal.returns-clause-records
 returns-clause-records g c =
     let plan = c.args.plan.now in
-    let s = state_in c.args.worker.now in
-    let is : IsSegment plan.checkpoints.rec (opened_of plan.checkpoints) c.args.j s c.recorded_count-upto.result =
-    record { value = plan.checkpoints.is_value; opens = plan.checkpoints.opens; within = c.requires.within; at = c.requires.at; last = c.recorded_count-upto.ensures.count } in
-    segment_records plan.checkpoints.rec (opened_of plan.checkpoints) c.args.j s c.recorded_count-upto.result is (tracers_of plan) (state_in c.run_to.new.worker) c.args.records.now.items c.run_to.new.records.items c.in_ok-run_to.ensures.came c.fire_at_checkpoint.new.records.items c.in_ok-fire_at_checkpoint.ensures
+    let is = of_plan plan c.args.j c.args.worker.now c.recorded_count-upto.result c.requires.within c.requires.at c.recorded_count-upto.ensures.count in
+    segment_records plan.checkpoints.rec (opened_of plan.checkpoints) c.args.j (state_in c.args.worker.now) c.recorded_count-upto.result is (tracers_of plan) (state_in c.run_to.new.worker) c.args.records.now.items c.run_to.new.records.items c.in_ok-run_to.ensures.came c.fire_at_checkpoint.new.records.items c.in_ok-fire_at_checkpoint.ensures
 
 pub returns-clause-state : goal.returns-clause-state
 returns-clause-state g c =
     let plan = c.args.plan.now in
-    let s = state_in c.args.worker.now in
-    let is : IsSegment plan.checkpoints.rec (opened_of plan.checkpoints) c.args.j s c.recorded_count-upto.result =
-    record { value = plan.checkpoints.is_value; opens = plan.checkpoints.opens; within = c.requires.within; at = c.requires.at; last = c.recorded_count-upto.ensures.count } in
-    λ inner. segment_state plan.checkpoints.rec (opened_of plan.checkpoints) c.args.j s c.recorded_count-upto.result is (tracers_of plan) (state_in c.run_to.new.worker) c.args.records.now.items c.run_to.new.records.items c.in_ok-run_to.ensures.came inner (sym (c.in_default.ensures ∙ segment_closes plan.checkpoints.rec (opened_of plan.checkpoints) c.args.j s c.recorded_count-upto.result is (tracers_of plan) (state_in c.run_to.new.worker) c.args.records.now.items c.run_to.new.records.items c.in_ok-run_to.ensures.came))
+    let is = of_plan plan c.args.j c.args.worker.now c.recorded_count-upto.result c.requires.within c.requires.at c.recorded_count-upto.ensures.count in
+    λ inner. segment_state plan.checkpoints.rec (opened_of plan.checkpoints) c.args.j (state_in c.args.worker.now) c.recorded_count-upto.result is (tracers_of plan) (state_in c.run_to.new.worker) c.args.records.now.items c.run_to.new.records.items c.in_ok-run_to.ensures.came inner (sym (c.in_default.ensures ∙ segment_closes plan.checkpoints.rec (opened_of plan.checkpoints) c.args.j (state_in c.args.worker.now) c.recorded_count-upto.result is (tracers_of plan) (state_in c.run_to.new.worker) c.args.records.now.items c.run_to.new.records.items c.in_ok-run_to.ensures.came))

@@ -1,5 +1,5 @@
 use Rattle.std.proofs.Common.{subst, arith}
-use Rattle.rec_format.specs.Reading.{Tells}
+use Rattle.sl_base.specs.Refusals.{Tells}
 use Rattle.rec_format.proofs.RecordingLaws.{is_found, reading_again}
 use Rattle.rec_format.proofs.reading.read_recording.Goals as goal
 

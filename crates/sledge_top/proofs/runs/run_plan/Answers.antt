@@ -5,7 +5,8 @@ use Rattle.epoch_run.specs.EpochLaws.{epochs_of}
 use Rattle.epoch_run.specs.Plans.{value_at, values_of}
 use Rattle.epoch_core.specs.Posts.{Posted}
 use Rattle.epoch_core.specs.Schedule.{start, run_events, all_posts}
-use Rattle.ordered_merge.specs.Merged.{Tells, merged}
+use Rattle.sl_base.specs.Refusals.{Tells}
+use Rattle.ordered_merge.specs.Merged.{merged}
 use Rattle.sledge_top.proofs.Turns.{IsDone, one_does_all}
 use Rattle.sledge_top.proofs.WholeRun.{merged_is_run}
 use Rattle.sledge_top.proofs.runs.run_plan.Goals as goal

@@ -2,7 +2,7 @@ use Rattle.std.proofs.Common.{◌++◌, List, Ok, ap, sym, subst, ◌∙◌}
 use Rattle.call_log.specs.declared.breaks.Break.{Break}
 use Rattle.tracer_lang.specs.declared.record.Record.{Record}
 use Rattle.epoch_run.specs.Records.{emit_at}
-use Rattle.ordered_merge.specs.Merged.{Fails as FailsMerge}
+use Rattle.sl_base.specs.Refusals.{Fails as FailsMerge}
 use Rattle.sledge_top.specs.Epochs.{run_of}
 use Rattle.sledge_top.specs.Report.{all_lines, end_line, regs_line}
 use Rattle.sledge_top.specs.Answer.{traced, Fails, broken_by}

@@ -1,14 +1,19 @@
--- What the type of a plan keeps: each fact has one proof at most.
+-- What a plan keeps of its opening state, which has one proof at most.
 use Rattle.std.specs.Prelude.{◌≡◌, ℕ, List, Option, Some, None}
 use Rattle.std.specs.Coded.{Coded, Coded-set, code_by, coded×, coded_ℕ, coded_list, coded_option}
 use Rattle.std.specs.FinMap as map
 use Rattle.std.proofs.Common.{refl}
 use Rattle.sl_model.specs.declared.run_state.RunState.{RunState}
 use Rattle.sl_model.specs.declared.run_state.RunState.TheVariants.{Running, Exited}
+use Rattle.sl_model.specs.declared.layout.Layout.{Layout}
 use Rattle.sl_model.specs.Pages.{Pages}
 use Rattle.sl_model.specs.State.{State}
+use Rattle.elf_image.specs.declared.image.Image.{Image}
+use Rattle.replay.specs.Opening.{opening}
+use Rattle.checkpoints.specs.declared.kept.Checkpoints.{Checkpoints}
+use Rattle.checkpoints.specs.RecordedRun.{opened_of}
 
--- ---- states have one proof that they are equal, since a state is the tuple of its fields
+-- a state is stored as the tuple of its fields
 
 abbrev exit_code : RunState → Option ℕ
 exit_code Running = None
@@ -40,10 +45,13 @@ Rest = RunState × (Pair × (Pair × (Pair × ℕ)))
 abbrev rest_code : Coded Rest
 rest_code = coded× status_code (coded× pair_code (coded× pair_code (coded× pair_code coded_ℕ)))
 
+abbrev bounds_of : Layout → Pair
+bounds_of layout = (layout.brk_start, layout.heap_limit)
+
 abbrev parts_of : State → (List ℕ × Pages) × Rest
 parts_of s = (
   (s.x, s.pages),
-  (s.status, ((s.pc, s.count), ((s.brk, s.brk_end), ((s.layout.brk_start, s.layout.heap_limit), s.next_call)))),
+  (s.status, ((s.pc, s.count), ((s.brk, s.brk_end), (bounds_of s.layout, s.next_call)))),
 )
 
 abbrev state_with : (List ℕ × Pages) × Rest → State
@@ -61,7 +69,14 @@ state_with p =
     }
 
 abbrev state_code : Coded State
-state_code = code_by ((List ℕ × Pages) × Rest) (coded× memory_code rest_code) parts_of state_with (λ _. refl)
+state_code =
+    code_by ((List ℕ × Pages) × Rest) (coded× memory_code rest_code) parts_of state_with (λ _. refl)
 
-pub states-set : (s t : State) → IsProp (s ≡ t)
-states-set s t = Coded-set state_code s t
+-- ---- the opening state of a plan
+
+-- checkpoints open with the state that an image is loaded to, with the recorded arguments
+abbrev pub IsLoaded : Image → Checkpoints → Type 0
+IsLoaded image checkpoints = opened_of checkpoints ≡ opening image checkpoints.rec.args
+
+pub IsLoaded-prop : (image : Image) (checkpoints : Checkpoints) → IsProp (IsLoaded image checkpoints)
+IsLoaded-prop image checkpoints = Coded-set state_code _ _
