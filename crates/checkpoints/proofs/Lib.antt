@@ -2,7 +2,6 @@ pub mod Options
 pub mod Missing
 pub mod Lists
 pub mod FirstPage
-pub mod Filling
 pub mod Copying
 pub mod Opened
 pub mod SmallMemory

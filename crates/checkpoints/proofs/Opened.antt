@@ -15,6 +15,7 @@ use Rattle.rv_machine.specs.Machine.{state_of}
 use Rattle.rec_format.specs.declared.recording.Recording.{Recording}
 use Rattle.rec_format.specs.declared.recording.CheckpointData.{CheckpointData}
 use Rattle.sl_model.specs.Mapping.{map_pages}
+use Rattle.sl_model.proofs.Counted.{len-map_pages-below}
 use Rattle.rec_format.specs.Recorded.{recorded_end, recorded_pages, recorded_state_of, recorded_state, put_all_listed}
 use Rattle.sl_model.specs.State.{IsOpening}
 
@@ -50,10 +51,11 @@ few_pages s is =
     omega (arith, long, is.fits.few)
 
 -- there is room for all pages of a heap
-pub room_for_heap : (s : State) (pages : Pages) (end : ℕ) → IsOpening s → pages ≡ s.pages → end ≤ s.layout.heap_limit → len pages + (end - s.layout.brk_start) / 4096 ≤ 16384
+pub room_for_heap : (s : State) (pages : Pages) (end : ℕ) → IsOpening s → pages ≡ s.pages → end ≤ s.layout.heap_limit → len (map_pages pages (s.layout.brk_start / 4096) ((end - s.layout.brk_start) / 4096)) ≤ 16384
 room_for_heap s pages end is same to =
     let few = few_pages s is in
-    rw same (omega (arith, few, is.fits.layout.size))
+    let all = len-map_pages-below s.pages (s.layout.brk_start / 4096) ((end - s.layout.brk_start) / 4096) in
+    rw same (omega (arith, few, is.fits.layout.size, all))
 
 pub heap_below : (s : State) (end : ℕ) → IsOpening s → s.layout.brk_start ≤ end → end ≤ s.layout.heap_limit → s.layout.brk_start / 4096 + (end - s.layout.brk_start) / 4096 ≤ 0xBFFFF
 heap_below s end is from to = omega (arith, is.fits.layout.below_end, is.fits.layout.start)

@@ -1,29 +1,13 @@
-//! Pages that are put into memory.
+//! Listed pages that are put into memory.
 
-ghost use Rattle.std.specs.Prelude.{◌≡◌, ◌+◌, ◌≤◌, OnOk};
+ghost use Rattle.std.specs.Prelude.{◌≡◌, ◌≤◌};
 ghost use Rattle.std.specs.List.{AllByRecursion};
-ghost use Rattle.std.specs.FinMap.{len};
-ghost use Rattle.sl_model.specs.declared.layout.TheConstants.{MOST_PAGES, PROGRAM_PAGES};
 ghost use Rattle.rec_format.specs.Rules.{IsListedPage};
-ghost use Rattle.sl_model.specs.Mapping.{map_pages};
 ghost use Rattle.rec_format.specs.Recorded.{end_place, listed_to, put_listed, put_all_listed};
 
 use crate::kept::Checkpoints;
 use page_frames::Frames;
 use rec_format::ListedPage;
-use sl_base::Memory;
-
-/// Maps zeros in so many pages from one on.
-pub fn map_pages(frames: &mut Frames, first: u32, count: u32) -> Result<(), Memory>
-    requires below { first + count ≤ PROGRAM_PAGES }
-    requires few { len frames.old.pages + count ≤ MOST_PAGES }
-    ensures { OnOk result (frames.new.pages ≡ map_pages frames.old.pages first count) }
-{
-    for page in first..first + count {
-        frames.map_page(page)?;
-    }
-    Ok(())
-}
 
 /// Puts a listed page into memory, where it is mapped.
 fn put_page(frames: &mut Frames, page: &ListedPage)

@@ -9,7 +9,6 @@ ghost use Rattle.checkpoints.specs.RecordedRun.{opened_of};
 
 use crate::copies::copied_frames;
 use crate::kept::Checkpoints;
-use crate::mapping::map_pages;
 use page_frames::Frames;
 use rec_format::CheckpointData;
 use rv_machine::Machine;
@@ -74,7 +73,7 @@ impl Checkpoints {
     {
         let mut frames = copied_frames(self.alloc, &self.opening)?;
         let start = self.machine.layout.brk_start;
-        map_pages(&mut frames, start / 4096, (end - start) / 4096)?;
+        frames.map_pages(start / 4096, (end - start) / 4096)?;
         self.put_lists(&mut frames, k);
         Ok(frames)
     }
