@@ -4,8 +4,8 @@ ghost use Rattle.std.specs.Prelude.{◌≡◌, IfSome};
 ghost use Rattle.sl_model.specs.declared.instr.Instr.{Instr};
 ghost use Rattle.sl_model.specs.Words.{meaning, jalr_meaning, branch_meaning, load_meaning, store_meaning, immediate_meaning, register_meaning, fence_meaning, system_meaning, Means};
 
-use crate::{fields, opcodes, operations};
-use sl_model::{Instr, words_mean};
+use crate::{fields, operations};
+use sl_model::{Instr, opcodes, words_mean};
 
 /// A word of opcode JALR.
 #[tactic(auto, unfolding(sl_model::specs::Words::jalr_meaning))]
@@ -29,12 +29,12 @@ fn branch(word: u32) -> Option<Instr>
     let op = operations::branch(fields::funct3(word))?;
     let rs1 = fields::rs1(word);
     let rs2 = fields::rs2(word);
-    let offset = fields::branch_offset(word);
+    let half_offset = fields::branch_half_offset(word);
     Some(Instr::Branch {
         op,
         rs1,
         rs2,
-        offset,
+        half_offset,
     })
 }
 
@@ -92,7 +92,7 @@ fn immediate(word: u32) -> Option<Instr>
     }
     let op = operations::immediate(funct3)?;
     let imm = fields::immediate(word);
-    Some(Instr::Immediate { op, rd, rs1, imm })
+    Some(Instr::OpImm { op, rd, rs1, imm })
 }
 
 /// A word of opcode OP.
@@ -105,12 +105,12 @@ fn register(word: u32) -> Option<Instr>
     let rd = fields::rd(word);
     let rs1 = fields::rs1(word);
     let rs2 = fields::rs2(word);
-    if funct7 == 0b0000001 {
+    if funct7 == opcodes::MULDIV {
         let op = operations::multiply(funct3)?;
-        return Some(Instr::Multiply { op, rd, rs1, rs2 });
+        return Some(Instr::MulDiv { op, rd, rs1, rs2 });
     }
     let op = operations::register(funct7, funct3)?;
-    Some(Instr::Register { op, rd, rs1, rs2 })
+    Some(Instr::Op { op, rd, rs1, rs2 })
 }
 
 /// A word of opcode MISC-MEM.
@@ -132,8 +132,8 @@ fn system(word: u32) -> Option<Instr>
     ensures { result ≡ system_meaning word }
 {
     match word {
-        0x0000_0073 => Some(Instr::Ecall),
-        0x0010_0073 => Some(Instr::Ebreak),
+        opcodes::ECALL => Some(Instr::Ecall),
+        opcodes::EBREAK => Some(Instr::Ebreak),
         _ => None,
     }
 }
@@ -164,7 +164,7 @@ fn by_opcode(word: u32) -> Option<Instr>
         }),
         opcodes::JAL => Some(Instr::Jal {
             rd: fields::rd(word),
-            offset: fields::jump_offset(word),
+            half_offset: fields::jump_half_offset(word),
         }),
         opcodes::JALR => register_jump(word),
         opcodes::BRANCH => branch(word),

@@ -1,20 +1,20 @@
 //! From an instruction to its word.
 
 ghost use Rattle.std.specs.Prelude.{◌≡◌, ℕ};
-ghost use Rattle.sl_model.specs.declared.instr.Instr.TheVariants.{Branch, Load, Store, Immediate, Shift, Register as Operation, Multiply};
+ghost use Rattle.sl_model.specs.declared.instr.Instr.TheVariants.{Branch, Load, Store, OpImm, Shift, Op, MulDiv};
 ghost use Rattle.sl_model.specs.Words.{meaning, Means};
 
-use crate::{formats, opcodes, operations};
+use crate::{formats, operations};
 use sl_model::{
-    Bits, BranchOp, ImmediateOp, Instr, LoadOp, MultiplyOp, Register, RegisterOp, ShiftOp, StoreOp,
-    one_word, words_mean,
+    Bits, BranchOp, ImmediateOp, Instr, LoadOp, MulDivOp, Register, RegisterOp, ShiftOp, StoreOp,
+    one_word, opcodes, words_mean,
 };
 
-fn branch(op: BranchOp, rs1: Register, rs2: Register, offset: Bits<12>) -> u32
-    ensures { Means result (Branch op rs1 rs2 offset) }
+fn branch(op: BranchOp, rs1: Register, rs2: Register, half_offset: Bits<12>) -> u32
+    ensures { Means result (Branch op rs1 rs2 half_offset) }
 {
     let funct3 = operations::branch_funct3(op);
-    formats::branch_format(opcodes::BRANCH, funct3, rs1, rs2, offset)
+    formats::branch_format(opcodes::BRANCH, funct3, rs1, rs2, half_offset)
 }
 
 fn load(op: LoadOp, rd: Register, rs1: Register, offset: Bits<12>) -> u32
@@ -32,7 +32,7 @@ fn store(op: StoreOp, rs1: Register, rs2: Register, offset: Bits<12>) -> u32
 }
 
 fn immediate(op: ImmediateOp, rd: Register, rs1: Register, imm: Bits<12>) -> u32
-    ensures { Means result (Immediate op rd rs1 imm) }
+    ensures { Means result (OpImm op rd rs1 imm) }
 {
     let funct3 = operations::immediate_funct3(op);
     formats::immediate_format(opcodes::OP_IMM, funct3, rd, rs1, imm)
@@ -47,17 +47,17 @@ fn shift(op: ShiftOp, rd: Register, rs1: Register, amount: Bits<5>) -> u32
 }
 
 fn register(op: RegisterOp, rd: Register, rs1: Register, rs2: Register) -> u32
-    ensures { Means result (Operation op rd rs1 rs2) }
+    ensures { Means result (Op op rd rs1 rs2) }
 {
     let funct3 = operations::register_funct3(op);
     let funct7 = operations::register_funct7(op);
     formats::register_format(opcodes::OP, funct3, funct7, rd, rs1, rs2)
 }
 
-fn multiply(op: MultiplyOp, rd: Register, rs1: Register, rs2: Register) -> u32
-    ensures { Means result (Multiply op rd rs1 rs2) }
+fn multiply(op: MulDivOp, rd: Register, rs1: Register, rs2: Register) -> u32
+    ensures { Means result (MulDiv op rd rs1 rs2) }
 {
-    let funct3 = operations::multiply_funct3(op);
+    let funct3 = operations::mul_div_funct3(op);
     formats::register_format(opcodes::OP, funct3, 0b0000001, rd, rs1, rs2)
 }
 
@@ -68,7 +68,7 @@ fn by_variant(instr: &Instr) -> u32
     match *instr {
         Instr::Lui { rd, imm } => formats::upper_format(opcodes::LUI, rd, imm),
         Instr::Auipc { rd, imm } => formats::upper_format(opcodes::AUIPC, rd, imm),
-        Instr::Jal { rd, offset } => formats::jump_format(opcodes::JAL, rd, offset),
+        Instr::Jal { rd, half_offset } => formats::jump_format(opcodes::JAL, rd, half_offset),
         Instr::Jalr { rd, rs1, offset } => {
             formats::immediate_format(opcodes::JALR, 0b000, rd, rs1, offset)
         }
@@ -76,8 +76,8 @@ fn by_variant(instr: &Instr) -> u32
             op,
             rs1,
             rs2,
-            offset,
-        } => branch(op, rs1, rs2, offset),
+            half_offset,
+        } => branch(op, rs1, rs2, half_offset),
         Instr::Load {
             op,
             rd,
@@ -90,15 +90,15 @@ fn by_variant(instr: &Instr) -> u32
             rs2,
             offset,
         } => store(op, rs1, rs2, offset),
-        Instr::Immediate { op, rd, rs1, imm } => immediate(op, rd, rs1, imm),
+        Instr::OpImm { op, rd, rs1, imm } => immediate(op, rd, rs1, imm),
         Instr::Shift {
             op,
             rd,
             rs1,
             amount,
         } => shift(op, rd, rs1, amount),
-        Instr::Register { op, rd, rs1, rs2 } => register(op, rd, rs1, rs2),
-        Instr::Multiply { op, rd, rs1, rs2 } => multiply(op, rd, rs1, rs2),
+        Instr::Op { op, rd, rs1, rs2 } => register(op, rd, rs1, rs2),
+        Instr::MulDiv { op, rd, rs1, rs2 } => multiply(op, rd, rs1, rs2),
         Instr::Fence { high, rd } => formats::fence_format(opcodes::MISC_MEM, high, rd),
         Instr::Ecall => 0x0000_0073,
         Instr::Ebreak => 0x0010_0073,

@@ -88,7 +88,7 @@ pub fn store_offset(word: u32) -> Bits<12>
 
 /// imm[12:1] of the B format: imm[12] in bit 31, imm[11] in bit 7, imm[10:5] in bits 30 to 25, imm[4:1] in bits 11
 /// to 8.
-pub fn branch_offset(word: u32) -> Bits<12>
+pub fn branch_half_offset(word: u32) -> Bits<12>
     ensures { result ≡ b_immediate word }
 {
     let sign = joined(word >> 31, word >> 7 & 0x1, 1);
@@ -98,7 +98,7 @@ pub fn branch_offset(word: u32) -> Bits<12>
 
 /// imm[20:1] of the J format: imm[20] in bit 31, imm[19:12] in bits 19 to 12, imm[11] in bit 20, imm[10:1] in bits 30
 /// to 21.
-pub fn jump_offset(word: u32) -> Bits<20>
+pub fn jump_half_offset(word: u32) -> Bits<20>
     ensures { result ≡ j_immediate word }
 {
     let sign = joined(word >> 31, word >> 12 & 0xff, 8);

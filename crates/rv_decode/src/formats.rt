@@ -74,7 +74,7 @@ pub fn branch_format(
     funct3: u32,
     rs1: Register,
     rs2: Register,
-    offset: Bits<12>,
+    half_offset: Bits<12>,
 ) -> u32
     requires opcode { opcode < 2 ^ 7 }
     requires funct3 { funct3 < 2 ^ 3 }
@@ -82,15 +82,15 @@ pub fn branch_format(
     ensures funct3 { funct3_of result ≡ funct3 }
     ensures rs1 { rs1_of result ≡ rs1 }
     ensures rs2 { rs2_of result ≡ rs2 }
-    ensures offset { b_immediate result ≡ offset }
+    ensures half_offset { b_immediate result ≡ half_offset }
 {
-    let offset = offset.value();
-    let word = joined(offset >> 11, offset >> 4 & 0x3f, 6);
+    let half_offset = half_offset.value();
+    let word = joined(half_offset >> 11, half_offset >> 4 & 0x3f, 6);
     let word = joined(word, rs2.value(), 5);
     let word = joined(word, rs1.value(), 5);
     let word = joined(word, funct3, 3);
-    let word = joined(word, offset & 0xf, 4);
-    let word = joined(word, offset >> 10 & 0x1, 1);
+    let word = joined(word, half_offset & 0xf, 4);
+    let word = joined(word, half_offset >> 10 & 0x1, 1);
     joined(word, opcode, 7)
 }
 
@@ -107,16 +107,16 @@ pub fn upper_format(opcode: u32, rd: Register, imm: Bits<20>) -> u32
 
 /// A word of the J format: imm[20] goes to bit 31, imm[10:1] to bits 30 to 21, imm[11] to bit 20, imm[19:12] to bits
 /// 19 to 12.
-pub fn jump_format(opcode: u32, rd: Register, offset: Bits<20>) -> u32
+pub fn jump_format(opcode: u32, rd: Register, half_offset: Bits<20>) -> u32
     requires { opcode < 2 ^ 7 }
     ensures opcode { opcode_of result ≡ opcode }
     ensures rd { rd_of result ≡ rd }
-    ensures offset { j_immediate result ≡ offset }
+    ensures half_offset { j_immediate result ≡ half_offset }
 {
-    let offset = offset.value();
-    let word = joined(offset >> 19, offset & 0x3ff, 10);
-    let word = joined(word, offset >> 10 & 0x1, 1);
-    let word = joined(word, offset >> 11 & 0xff, 8);
+    let half_offset = half_offset.value();
+    let word = joined(half_offset >> 19, half_offset & 0x3ff, 10);
+    let word = joined(word, half_offset >> 10 & 0x1, 1);
+    let word = joined(word, half_offset >> 11 & 0xff, 8);
     let word = joined(word, rd.value(), 5);
     joined(word, opcode, 7)
 }

@@ -5,7 +5,6 @@ mod decoding;
 mod encoding;
 mod fields;
 mod formats;
-mod opcodes;
 mod operations;
 #[cfg(test)]
 mod tests;
@@ -13,5 +12,5 @@ mod tests;
 pub use decoding::decode;
 pub use encoding::encode;
 pub use sl_model::{
-    Bits, BranchOp, ImmediateOp, Instr, LoadOp, MultiplyOp, Register, RegisterOp, ShiftOp, StoreOp,
+    Bits, BranchOp, ImmediateOp, Instr, LoadOp, MulDivOp, Register, RegisterOp, ShiftOp, StoreOp,
 };

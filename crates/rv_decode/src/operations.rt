@@ -1,9 +1,9 @@
 //! The operations that funct3 and funct7 name, by the instruction table of the RISC-V Unprivileged ISA.
 
 ghost use Rattle.std.specs.Prelude.{◌≡◌, ◌^◌, ◌<◌};
-ghost use Rattle.sl_model.specs.Words.{branch_op, load_op, store_op, immediate_op, shift_op, register_op, multiply_op, branch_funct3, load_funct3, store_funct3, immediate_funct3, shift_funct3, shift_funct7, register_funct3, register_funct7, multiply_funct3};
+ghost use Rattle.sl_model.specs.Words.{branch_op, load_op, store_op, immediate_op, shift_op, register_op, mul_div_op, branch_funct3, load_funct3, store_funct3, immediate_funct3, shift_funct3, shift_funct7, register_funct3, register_funct7, mul_div_funct3};
 
-use sl_model::{BranchOp, ImmediateOp, LoadOp, MultiplyOp, RegisterOp, ShiftOp, StoreOp};
+use sl_model::{BranchOp, ImmediateOp, LoadOp, MulDivOp, RegisterOp, ShiftOp, StoreOp};
 
 /// The branch with this funct3.
 #[tactic(auto, unfolding(sl_model::specs::Words::branch_op))]
@@ -99,19 +99,19 @@ pub fn register(funct7: u32, funct3: u32) -> Option<RegisterOp>
 }
 
 /// The operation of the "M" extension with this funct3.
-#[tactic(auto, unfolding(sl_model::specs::Words::multiply_op))]
-pub fn multiply(funct3: u32) -> Option<MultiplyOp>
-    ensures { result ≡ multiply_op funct3 }
+#[tactic(auto, unfolding(sl_model::specs::Words::mul_div_op))]
+pub fn multiply(funct3: u32) -> Option<MulDivOp>
+    ensures { result ≡ mul_div_op funct3 }
 {
     match funct3 {
-        0b000 => Some(MultiplyOp::Mul),
-        0b001 => Some(MultiplyOp::Mulh),
-        0b010 => Some(MultiplyOp::Mulhsu),
-        0b011 => Some(MultiplyOp::Mulhu),
-        0b100 => Some(MultiplyOp::Div),
-        0b101 => Some(MultiplyOp::Divu),
-        0b110 => Some(MultiplyOp::Rem),
-        0b111 => Some(MultiplyOp::Remu),
+        0b000 => Some(MulDivOp::Mul),
+        0b001 => Some(MulDivOp::Mulh),
+        0b010 => Some(MulDivOp::Mulhsu),
+        0b011 => Some(MulDivOp::Mulhu),
+        0b100 => Some(MulDivOp::Div),
+        0b101 => Some(MulDivOp::Divu),
+        0b110 => Some(MulDivOp::Rem),
+        0b111 => Some(MulDivOp::Remu),
         _ => None,
     }
 }
@@ -235,18 +235,18 @@ pub fn register_funct7(op: RegisterOp) -> u32
 }
 
 /// funct3 of a operation of the "M" extension.
-pub fn multiply_funct3(op: MultiplyOp) -> u32
-    ensures value { result ≡ multiply_funct3 op }
+pub fn mul_div_funct3(op: MulDivOp) -> u32
+    ensures value { result ≡ mul_div_funct3 op }
     ensures fits { result < 2 ^ 3 }
 {
     match op {
-        MultiplyOp::Mul => 0b000,
-        MultiplyOp::Mulh => 0b001,
-        MultiplyOp::Mulhsu => 0b010,
-        MultiplyOp::Mulhu => 0b011,
-        MultiplyOp::Div => 0b100,
-        MultiplyOp::Divu => 0b101,
-        MultiplyOp::Rem => 0b110,
-        MultiplyOp::Remu => 0b111,
+        MulDivOp::Mul => 0b000,
+        MulDivOp::Mulh => 0b001,
+        MulDivOp::Mulhsu => 0b010,
+        MulDivOp::Mulhu => 0b011,
+        MulDivOp::Div => 0b100,
+        MulDivOp::Divu => 0b101,
+        MulDivOp::Rem => 0b110,
+        MulDivOp::Remu => 0b111,
     }
 }

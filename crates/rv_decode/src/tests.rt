@@ -2,7 +2,7 @@
 //! are those of the text. The illegal words are the neighbors of these, and instructions of other extensions.
 
 use crate::{
-    Bits, BranchOp, ImmediateOp, Instr, LoadOp, MultiplyOp, Register, RegisterOp, ShiftOp, StoreOp,
+    Bits, BranchOp, ImmediateOp, Instr, LoadOp, MulDivOp, Register, RegisterOp, ShiftOp, StoreOp,
     decode, encode,
 };
 use std::process::Abort;
@@ -30,7 +30,7 @@ fn upper(rt: &impl Abort) {
 }
 
 fn jumps(rt: &impl Abort) {
-    for (word, rd, offset) in [
+    for (word, rd, half_offset) in [
         (0x0100_00ef, 1, 0x00008),
         (0xffff_f06f, 0, 0xfffff),
         (0x4000_056f, 10, 0x00200),
@@ -40,8 +40,8 @@ fn jumps(rt: &impl Abort) {
         (0x8000_0def, 27, 0x80000),
     ] {
         let rd = register(rd);
-        let offset = Bits::<20>::low(offset);
-        check(rt, word, Instr::Jal { rd, offset });
+        let half_offset = Bits::<20>::low(half_offset);
+        check(rt, word, Instr::Jal { rd, half_offset });
     }
 }
 
@@ -60,7 +60,7 @@ fn register_jumps(rt: &impl Abort) {
 }
 
 fn branches(rt: &impl Abort) {
-    for (word, op, rs1, rs2, offset) in [
+    for (word, op, rs1, rs2, half_offset) in [
         (0xfeb5_0ce3, BranchOp::Beq, 10, 11, 0xffc),
         (0x01f0_1863, BranchOp::Bne, 0, 31, 0x008),
         (0x400f_c063, BranchOp::Blt, 31, 0, 0x200),
@@ -70,7 +70,7 @@ fn branches(rt: &impl Abort) {
     ] {
         let rs1 = register(rs1);
         let rs2 = register(rs2);
-        let offset = Bits::<12>::low(offset);
+        let half_offset = Bits::<12>::low(half_offset);
         check(
             rt,
             word,
@@ -78,7 +78,7 @@ fn branches(rt: &impl Abort) {
                 op,
                 rs1,
                 rs2,
-                offset,
+                half_offset,
             },
         );
     }
@@ -145,7 +145,7 @@ fn immediates(rt: &impl Abort) {
         let rd = register(rd);
         let rs1 = register(rs1);
         let imm = Bits::<12>::low(imm);
-        check(rt, word, Instr::Immediate { op, rd, rs1, imm });
+        check(rt, word, Instr::OpImm { op, rd, rs1, imm });
     }
 }
 
@@ -189,25 +189,25 @@ fn operations(rt: &impl Abort) {
         let rd = register(rd);
         let rs1 = register(rs1);
         let rs2 = register(rs2);
-        check(rt, word, Instr::Register { op, rd, rs1, rs2 });
+        check(rt, word, Instr::Op { op, rd, rs1, rs2 });
     }
 }
 
 fn multiplies(rt: &impl Abort) {
     for (word, op, rd, rs1, rs2) in [
-        (0x02c5_8533, MultiplyOp::Mul, 10, 11, 12),
-        (0x03e0_1fb3, MultiplyOp::Mulh, 31, 0, 30),
-        (0x02af_a033, MultiplyOp::Mulhsu, 0, 31, 10),
-        (0x0324_b433, MultiplyOp::Mulhu, 8, 9, 18),
-        (0x02c5_c533, MultiplyOp::Div, 10, 11, 12),
-        (0x03e0_5fb3, MultiplyOp::Divu, 31, 0, 30),
-        (0x02af_e033, MultiplyOp::Rem, 0, 31, 10),
-        (0x0324_f433, MultiplyOp::Remu, 8, 9, 18),
+        (0x02c5_8533, MulDivOp::Mul, 10, 11, 12),
+        (0x03e0_1fb3, MulDivOp::Mulh, 31, 0, 30),
+        (0x02af_a033, MulDivOp::Mulhsu, 0, 31, 10),
+        (0x0324_b433, MulDivOp::Mulhu, 8, 9, 18),
+        (0x02c5_c533, MulDivOp::Div, 10, 11, 12),
+        (0x03e0_5fb3, MulDivOp::Divu, 31, 0, 30),
+        (0x02af_e033, MulDivOp::Rem, 0, 31, 10),
+        (0x0324_f433, MulDivOp::Remu, 8, 9, 18),
     ] {
         let rd = register(rd);
         let rs1 = register(rs1);
         let rs2 = register(rs2);
-        check(rt, word, Instr::Multiply { op, rd, rs1, rs2 });
+        check(rt, word, Instr::MulDiv { op, rd, rs1, rs2 });
     }
 }
 

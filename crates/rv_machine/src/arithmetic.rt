@@ -4,7 +4,7 @@ ghost use Rattle.std.specs.Prelude.{◌≡◌, ◌<◌, ◌^◌, ◌*ℤ◌, Fit
 ghost use Rattle.std.specs.Int.{w64};
 ghost use Rattle.sl_model.specs.Arithmetic as value;
 
-use sl_model::{Bits, BranchOp, ImmediateOp, LoadOp, MultiplyOp, RegisterOp, ShiftOp, StoreOp};
+use sl_model::{Bits, BranchOp, ImmediateOp, LoadOp, MulDivOp, RegisterOp, ShiftOp, StoreOp};
 
 /// The word that imm[11:0] stands for.
 pub fn immediate_word(imm: Bits<12>) -> u32
@@ -21,17 +21,17 @@ pub fn upper_word(imm: Bits<20>) -> u32
 }
 
 /// The word that imm[12:1] stands for, which is half an offset.
-pub fn branch_word(half: Bits<12>) -> u32
-    ensures { result ≡ value.branch_word half }
+pub fn branch_word(half_offset: Bits<12>) -> u32
+    ensures { result ≡ value.branch_word half_offset }
 {
-    sign_extend(13, 2 * half.value())
+    sign_extend(13, 2 * half_offset.value())
 }
 
 /// The word that imm[20:1] stands for, which is half an offset.
-pub fn jump_word(half: Bits<20>) -> u32
-    ensures { result ≡ value.jump_word half }
+pub fn jump_word(half_offset: Bits<20>) -> u32
+    ensures { result ≡ value.jump_word half_offset }
 {
-    sign_extend(21, 2 * half.value())
+    sign_extend(21, 2 * half_offset.value())
 }
 
 /// A number of some bits, of which the highest is its sign, as a word.
@@ -108,30 +108,30 @@ pub fn register_value(op: RegisterOp, a: u32, b: u32) -> u32
 }
 
 /// The value of an operation of the "M" extension.
-pub fn multiply_value(op: MultiplyOp, a: u32, b: u32) -> u32
-    ensures { result ≡ value.multiply_value op a b }
+pub fn mul_div_value(op: MulDivOp, a: u32, b: u32) -> u32
+    ensures { result ≡ value.mul_div_value op a b }
 {
     match op {
-        MultiplyOp::Mul => a.wrapping_mul(b),
-        MultiplyOp::Mulh => multiply_high(i64::from(a.cast_signed()), i64::from(b.cast_signed())),
-        MultiplyOp::Mulhsu => multiply_high(i64::from(a.cast_signed()), i64::from(b)),
-        MultiplyOp::Mulhu => (u64::from(a) * u64::from(b) >> 32) as u32,
-        MultiplyOp::Div => if b == 0 {
+        MulDivOp::Mul => a.wrapping_mul(b),
+        MulDivOp::Mulh => multiply_high(i64::from(a.cast_signed()), i64::from(b.cast_signed())),
+        MulDivOp::Mulhsu => multiply_high(i64::from(a.cast_signed()), i64::from(b)),
+        MulDivOp::Mulhu => (u64::from(a) * u64::from(b) >> 32) as u32,
+        MulDivOp::Div => if b == 0 {
             u32::MAX
         } else {
             a.cast_signed()
                 .wrapping_div(b.cast_signed())
                 .cast_unsigned()
         },
-        MultiplyOp::Divu => if b == 0 { u32::MAX } else { a / b },
-        MultiplyOp::Rem => if b == 0 {
+        MulDivOp::Divu => if b == 0 { u32::MAX } else { a / b },
+        MulDivOp::Rem => if b == 0 {
             a
         } else {
             a.cast_signed()
                 .wrapping_rem(b.cast_signed())
                 .cast_unsigned()
         },
-        MultiplyOp::Remu => if b == 0 { a } else { a % b },
+        MulDivOp::Remu => if b == 0 { a } else { a % b },
     }
 }
 

@@ -140,8 +140,8 @@ pub fn execute<B: Bus>(m: &mut Machine, bus: &mut B, instr: Instr) -> Outcome
             let value = m.pc.wrapping_add(arithmetic::upper_word(imm));
             advance(m, rd, value)
         }
-        Instr::Jal { rd, offset } => {
-            let target = m.pc.wrapping_add(arithmetic::jump_word(offset));
+        Instr::Jal { rd, half_offset } => {
+            let target = m.pc.wrapping_add(arithmetic::jump_word(half_offset));
             jump(m, rd, target)
         }
         Instr::Jalr { rd, rs1, offset } => {
@@ -152,10 +152,10 @@ pub fn execute<B: Bus>(m: &mut Machine, bus: &mut B, instr: Instr) -> Outcome
             op,
             rs1,
             rs2,
-            offset,
+            half_offset,
         } => {
             if arithmetic::is_taken(op, register(m, rs1), register(m, rs2)) {
-                let target = m.pc.wrapping_add(arithmetic::branch_word(offset));
+                let target = m.pc.wrapping_add(arithmetic::branch_word(half_offset));
                 branch(m, target)
             } else {
                 pass(m);
@@ -181,7 +181,7 @@ pub fn execute<B: Bus>(m: &mut Machine, bus: &mut B, instr: Instr) -> Outcome
             let value = register(m, rs2);
             store(m, bus, op, addr, value)
         }
-        Instr::Immediate { op, rd, rs1, imm } => {
+        Instr::OpImm { op, rd, rs1, imm } => {
             let value = arithmetic::immediate_value(
                 op,
                 register(m, rs1),
@@ -198,12 +198,12 @@ pub fn execute<B: Bus>(m: &mut Machine, bus: &mut B, instr: Instr) -> Outcome
             let value = arithmetic::shift_value(op, register(m, rs1), amount.value());
             advance(m, rd, value)
         }
-        Instr::Register { op, rd, rs1, rs2 } => {
+        Instr::Op { op, rd, rs1, rs2 } => {
             let value = arithmetic::register_value(op, register(m, rs1), register(m, rs2));
             advance(m, rd, value)
         }
-        Instr::Multiply { op, rd, rs1, rs2 } => {
-            let value = arithmetic::multiply_value(op, register(m, rs1), register(m, rs2));
+        Instr::MulDiv { op, rd, rs1, rs2 } => {
+            let value = arithmetic::mul_div_value(op, register(m, rs1), register(m, rs2));
             advance(m, rd, value)
         }
         Instr::Fence { .. } => {

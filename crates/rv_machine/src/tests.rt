@@ -6,7 +6,7 @@ use crate::{Machine, Outcome, next_trap, step, store_of};
 use rv_decode::encode;
 use sl_base::Steps;
 use sl_model::{
-    Bits, BranchOp, Bus, ImmediateOp, Instr, Layout, LoadOp, MultiplyOp, Register, RegisterOp,
+    Bits, BranchOp, Bus, ImmediateOp, Instr, Layout, LoadOp, MulDivOp, Register, RegisterOp,
     RunState, ShiftOp, StoreOp,
 };
 use std::marker::Brand;
@@ -128,7 +128,7 @@ fn jumps_and_branches(rt: HostRuntime) -> Result<(), Fail> {
     let memory = &mut page;
 
     // jal by half an offset; jalr from x1 with bit 0 cleared, also where it writes x1 itself
-    for (offset, to) in [
+    for (half_offset, to) in [
         (4, 0x10008),
         (0xffffc, 0xfff8),
         (0x80000, 0xfff1_0000),
@@ -136,7 +136,7 @@ fn jumps_and_branches(rt: HostRuntime) -> Result<(), Fail> {
     ] {
         let jal = Instr::Jal {
             rd: x(3),
-            offset: Bits::<20>::low(offset),
+            half_offset: Bits::<20>::low(half_offset),
         };
         assert_eq!(rt; target(&rt, memory, jal, 0, 0), (to, 0x10004));
     }
@@ -177,7 +177,7 @@ fn jumps_and_branches(rt: HostRuntime) -> Result<(), Fail> {
             op,
             rs1: x(1),
             rs2: x(2),
-            offset: Bits::<12>::low(0xffc),
+            half_offset: Bits::<12>::low(0xffc),
         };
         let to = if is_taken { 0xfff8 } else { 0x10004 };
         assert_eq!(rt; target(&rt, memory, branch, first, second), (to, 0));
@@ -193,11 +193,11 @@ fn misaligned_targets(rt: HostRuntime) -> Result<(), Fail> {
         op: BranchOp::Beq,
         rs1: x(1),
         rs2: x(0),
-        offset: Bits::<12>::low(1),
+        half_offset: Bits::<12>::low(1),
     };
     let jal = Instr::Jal {
         rd: x(1),
-        offset: Bits::<20>::low(1),
+        half_offset: Bits::<20>::low(1),
     };
     let jalr = Instr::Jalr {
         rd: x(1),
@@ -251,7 +251,7 @@ fn loads_and_stores(rt: HostRuntime) -> Result<(), Fail> {
             op,
             rs1: x(1),
             rs2: x(2),
-            offset: Bits::<12>::low(1),
+            half_offset: Bits::<12>::low(1),
         };
         assert_eq!(rt; value(&rt, memory, store, base, 0x1122_3344), 0);
         assert_eq!(rt; memory.load(0x10100, 4), Some(stored));

@@ -27,8 +27,8 @@ fn trap_of_instr<B: Bus>(m: &Machine, bus: &B, instr: Instr) -> Option<u32>
     ensures { result ≡ next.trap_of (next.execute (state_of m.now (B.pages bus.now)) instr) }
 {
     match instr {
-        Instr::Jal { offset, .. } => {
-            trap_of_jump(m.pc.wrapping_add(arithmetic::jump_word(offset)))
+        Instr::Jal { half_offset, .. } => {
+            trap_of_jump(m.pc.wrapping_add(arithmetic::jump_word(half_offset)))
         }
         Instr::Jalr { rs1, offset, .. } => {
             let target = address(m, rs1, offset);
@@ -38,10 +38,10 @@ fn trap_of_instr<B: Bus>(m: &Machine, bus: &B, instr: Instr) -> Option<u32>
             op,
             rs1,
             rs2,
-            offset,
+            half_offset,
         } => {
             if arithmetic::is_taken(op, register(m, rs1), register(m, rs2)) {
-                trap_of_jump(m.pc.wrapping_add(arithmetic::branch_word(offset)))
+                trap_of_jump(m.pc.wrapping_add(arithmetic::branch_word(half_offset)))
             } else {
                 None
             }

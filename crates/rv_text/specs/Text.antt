@@ -14,10 +14,10 @@ use Rattle.sl_model.specs.declared.instr.ShiftOp.{ShiftOp}
 use Rattle.sl_model.specs.declared.instr.ShiftOp.TheVariants.{Slli, Srli, Srai}
 use Rattle.sl_model.specs.declared.instr.RegisterOp.{RegisterOp}
 use Rattle.sl_model.specs.declared.instr.RegisterOp.TheVariants.{Add, Sub, Sll, Slt, Sltu, Xor, Srl, Sra, Or, And}
-use Rattle.sl_model.specs.declared.instr.MultiplyOp.{MultiplyOp}
-use Rattle.sl_model.specs.declared.instr.MultiplyOp.TheVariants.{Mul, Mulh, Mulhsu, Mulhu, Div, Divu, Rem, Remu}
+use Rattle.sl_model.specs.declared.instr.MulDivOp.{MulDivOp}
+use Rattle.sl_model.specs.declared.instr.MulDivOp.TheVariants.{Mul, Mulh, Mulhsu, Mulhu, Div, Divu, Rem, Remu}
 use Rattle.sl_model.specs.declared.instr.Instr.{Instr}
-use Rattle.sl_model.specs.declared.instr.Instr.TheVariants.{Lui, Auipc, Jal, Jalr, Branch, Load, Store, Immediate, Shift, Register, Multiply, Fence, Ecall, Ebreak}
+use Rattle.sl_model.specs.declared.instr.Instr.TheVariants.{Lui, Auipc, Jal, Jalr, Branch, Load, Store, OpImm, Shift, Op, MulDiv, Fence, Ecall, Ebreak}
 use Rattle.sl_model.specs.Arithmetic.{signed, immediate_word, branch_word, jump_word}
 
 -- x0 to x31, as the calling convention names them
@@ -78,15 +78,15 @@ operation_name Sra = codes "sra"
 operation_name Or = codes "or"
 operation_name And = codes "and"
 
-abbrev pub multiply_name : MultiplyOp → List ℕ
-multiply_name Mul = codes "mul"
-multiply_name Mulh = codes "mulh"
-multiply_name Mulhsu = codes "mulhsu"
-multiply_name Mulhu = codes "mulhu"
-multiply_name Div = codes "div"
-multiply_name Divu = codes "divu"
-multiply_name Rem = codes "rem"
-multiply_name Remu = codes "remu"
+abbrev pub mul_div_name : MulDivOp → List ℕ
+mul_div_name Mul = codes "mul"
+mul_div_name Mulh = codes "mulh"
+mul_div_name Mulhsu = codes "mulhsu"
+mul_div_name Mulhu = codes "mulhu"
+mul_div_name Div = codes "div"
+mul_div_name Divu = codes "divu"
+mul_div_name Rem = codes "rem"
+mul_div_name Remu = codes "remu"
 
 -- ---- operands
 
@@ -111,15 +111,16 @@ address offset base = number offset ++ in_parentheses (register_name base)
 abbrev pub instr_text : Instr → List ℕ
 instr_text (Lui rd imm) = two_operands (codes "lui") (register_name rd) (decimal imm)
 instr_text (Auipc rd imm) = two_operands (codes "auipc") (register_name rd) (decimal imm)
-instr_text (Jal rd offset) = two_operands (codes "jal") (register_name rd) (number (jump_word offset))
+instr_text (Jal rd half_offset) = two_operands (codes "jal") (register_name rd) (number (jump_word half_offset))
 instr_text (Jalr rd rs1 offset) = two_operands (codes "jalr") (register_name rd) (address (immediate_word offset) rs1)
-instr_text (Branch op rs1 rs2 offset) = three_operands (branch_name op) (register_name rs1) (register_name rs2) (number (branch_word offset))
+instr_text (Branch op rs1 rs2 half_offset) =
+    three_operands (branch_name op) (register_name rs1) (register_name rs2) (number (branch_word half_offset))
 instr_text (Load op rd rs1 offset) = two_operands (load_name op) (register_name rd) (address (immediate_word offset) rs1)
 instr_text (Store op rs1 rs2 offset) = two_operands (store_name op) (register_name rs2) (address (immediate_word offset) rs1)
-instr_text (Immediate op rd rs1 imm) = three_operands (immediate_name op) (register_name rd) (register_name rs1) (number (immediate_word imm))
+instr_text (OpImm op rd rs1 imm) = three_operands (immediate_name op) (register_name rd) (register_name rs1) (number (immediate_word imm))
 instr_text (Shift op rd rs1 amount) = three_operands (shift_name op) (register_name rd) (register_name rs1) (decimal amount)
-instr_text (Register op rd rs1 rs2) = three_operands (operation_name op) (register_name rd) (register_name rs1) (register_name rs2)
-instr_text (Multiply op rd rs1 rs2) = three_operands (multiply_name op) (register_name rd) (register_name rs1) (register_name rs2)
+instr_text (Op op rd rs1 rs2) = three_operands (operation_name op) (register_name rd) (register_name rs1) (register_name rs2)
+instr_text (MulDiv op rd rs1 rs2) = three_operands (mul_div_name op) (register_name rd) (register_name rs1) (register_name rs2)
 instr_text (Fence high rd) = codes "fence"
 instr_text Ecall = codes "ecall"
 instr_text Ebreak = codes "ebreak"

@@ -1,10 +1,10 @@
 //! The names of registers and the mnemonics of operations.
 
 ghost use Rattle.std.specs.Prelude.{◌≡◌};
-ghost use Rattle.rv_text.specs.Text.{register_name, branch_name, load_name, store_name, immediate_name, shift_name, operation_name, multiply_name};
+ghost use Rattle.rv_text.specs.Text.{register_name, branch_name, load_name, store_name, immediate_name, shift_name, operation_name, mul_div_name};
 
 use rv_decode::{
-    BranchOp, ImmediateOp, LoadOp, MultiplyOp, Register, RegisterOp, ShiftOp, StoreOp,
+    BranchOp, ImmediateOp, LoadOp, MulDivOp, Register, RegisterOp, ShiftOp, StoreOp,
 };
 
 /// The name of a register in the calling convention.
@@ -131,17 +131,17 @@ pub fn operation(op: RegisterOp) -> &'static str
 }
 
 /// The mnemonic of an operation of the "M" extension.
-pub fn multiply(op: MultiplyOp) -> &'static str
-    ensures { result.now ≡ multiply_name op }
+pub fn multiply(op: MulDivOp) -> &'static str
+    ensures { result.now ≡ mul_div_name op }
 {
     match op {
-        MultiplyOp::Mul => "mul",
-        MultiplyOp::Mulh => "mulh",
-        MultiplyOp::Mulhsu => "mulhsu",
-        MultiplyOp::Mulhu => "mulhu",
-        MultiplyOp::Div => "div",
-        MultiplyOp::Divu => "divu",
-        MultiplyOp::Rem => "rem",
-        MultiplyOp::Remu => "remu",
+        MulDivOp::Mul => "mul",
+        MulDivOp::Mulh => "mulh",
+        MulDivOp::Mulhsu => "mulhsu",
+        MulDivOp::Mulhu => "mulhu",
+        MulDivOp::Div => "div",
+        MulDivOp::Divu => "divu",
+        MulDivOp::Rem => "rem",
+        MulDivOp::Remu => "remu",
     }
 }

@@ -14,10 +14,10 @@ pub fn immediate(imm: Bits<12>) -> i32
 }
 
 /// The offset of a branch, of which imm[12:1] is half.
-pub fn branch_offset(half: Bits<12>) -> i32
-    ensures { result ≡ signed (branch_word half) }
+pub fn branch_offset(half_offset: Bits<12>) -> i32
+    ensures { result ≡ signed (branch_word half_offset) }
 {
-    let offset = half.value() as i32 * 2;
+    let offset = half_offset.value() as i32 * 2;
     if offset < 0x1000 {
         offset
     } else {
@@ -26,10 +26,10 @@ pub fn branch_offset(half: Bits<12>) -> i32
 }
 
 /// The offset of a jump, of which imm[20:1] is half.
-pub fn jump_offset(half: Bits<20>) -> i32
-    ensures { result ≡ signed (jump_word half) }
+pub fn jump_offset(half_offset: Bits<20>) -> i32
+    ensures { result ≡ signed (jump_word half_offset) }
 {
-    let offset = half.value() as i32 * 2;
+    let offset = half_offset.value() as i32 * 2;
     if offset < 0x10_0000 {
         offset
     } else {

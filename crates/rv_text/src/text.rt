@@ -2,13 +2,13 @@
 
 ghost use Rattle.std.specs.Prelude.{◌≡◌, ◌++◌, IfOk, string_bytes};
 ghost use Rattle.std.specs.Fmt.{signed_decimal};
-ghost use Rattle.sl_model.specs.declared.instr.Instr.TheVariants.{Jal, Branch, Load, Store, Immediate, Shift, Register as Operation, Multiply};
+ghost use Rattle.sl_model.specs.declared.instr.Instr.TheVariants.{Jal, Branch, Load, Store, OpImm, Shift, Op, MulDiv};
 ghost use Rattle.rv_text.specs.Text.{instr_text, two_operands, three_operands, address, register_name};
 ghost use Rattle.sl_model.specs.Arithmetic.{immediate_word};
 
 use crate::{names, numbers};
 use rv_decode::{
-    Bits, BranchOp, ImmediateOp, Instr, LoadOp, MultiplyOp, Register, RegisterOp, ShiftOp, StoreOp,
+    Bits, BranchOp, ImmediateOp, Instr, LoadOp, MulDivOp, Register, RegisterOp, ShiftOp, StoreOp,
 };
 use sl_base::Memory;
 use std::alloc::{AllocError, Global};
@@ -77,10 +77,10 @@ fn register_and_address(
     format!(in alloc; "{name} {a}, {offset}({base})")
 }
 
-fn jump(alloc: Global, rd: Register, offset: Bits<20>) -> Result<String, AllocError>
-    ensures { IfOk result (λ text. string_bytes text ≡ instr_text (Jal rd offset)) }
+fn jump(alloc: Global, rd: Register, half_offset: Bits<20>) -> Result<String, AllocError>
+    ensures { IfOk result (λ text. string_bytes text ≡ instr_text (Jal rd half_offset)) }
 {
-    register_and_number(alloc, "jal", rd, numbers::jump_offset(offset))
+    register_and_number(alloc, "jal", rd, numbers::jump_offset(half_offset))
 }
 
 fn branch(
@@ -88,11 +88,11 @@ fn branch(
     op: BranchOp,
     rs1: Register,
     rs2: Register,
-    offset: Bits<12>,
+    half_offset: Bits<12>,
 ) -> Result<String, AllocError>
-    ensures { IfOk result (λ text. string_bytes text ≡ instr_text (Branch op rs1 rs2 offset)) }
+    ensures { IfOk result (λ text. string_bytes text ≡ instr_text (Branch op rs1 rs2 half_offset)) }
 {
-    let offset = numbers::branch_offset(offset);
+    let offset = numbers::branch_offset(half_offset);
     registers_and_number(alloc, names::branch(op), rs1, rs2, offset)
 }
 
@@ -127,7 +127,7 @@ fn immediate(
     rs1: Register,
     imm: Bits<12>,
 ) -> Result<String, AllocError>
-    ensures { IfOk result (λ text. string_bytes text ≡ instr_text (Immediate op rd rs1 imm)) }
+    ensures { IfOk result (λ text. string_bytes text ≡ instr_text (OpImm op rd rs1 imm)) }
 {
     let imm = numbers::immediate(imm);
     registers_and_number(alloc, names::immediate(op), rd, rs1, imm)
@@ -153,19 +153,19 @@ fn operation(
     rs1: Register,
     rs2: Register,
 ) -> Result<String, AllocError>
-    ensures { IfOk result (λ text. string_bytes text ≡ instr_text (Operation op rd rs1 rs2)) }
+    ensures { IfOk result (λ text. string_bytes text ≡ instr_text (Op op rd rs1 rs2)) }
 {
     three_registers(alloc, names::operation(op), rd, rs1, rs2)
 }
 
 fn multiply(
     alloc: Global,
-    op: MultiplyOp,
+    op: MulDivOp,
     rd: Register,
     rs1: Register,
     rs2: Register,
 ) -> Result<String, AllocError>
-    ensures { IfOk result (λ text. string_bytes text ≡ instr_text (Multiply op rd rs1 rs2)) }
+    ensures { IfOk result (λ text. string_bytes text ≡ instr_text (MulDiv op rd rs1 rs2)) }
 {
     three_registers(alloc, names::multiply(op), rd, rs1, rs2)
 }
@@ -177,14 +177,14 @@ fn by_variant(alloc: Global, instr: &Instr) -> Result<String, AllocError>
     match *instr {
         Instr::Lui { rd, imm } => register_and_number(alloc, "lui", rd, imm.value() as i32),
         Instr::Auipc { rd, imm } => register_and_number(alloc, "auipc", rd, imm.value() as i32),
-        Instr::Jal { rd, offset } => jump(alloc, rd, offset),
+        Instr::Jal { rd, half_offset } => jump(alloc, rd, half_offset),
         Instr::Jalr { rd, rs1, offset } => register_and_address(alloc, "jalr", rd, offset, rs1),
         Instr::Branch {
             op,
             rs1,
             rs2,
-            offset,
-        } => branch(alloc, op, rs1, rs2, offset),
+            half_offset,
+        } => branch(alloc, op, rs1, rs2, half_offset),
         Instr::Load {
             op,
             rd,
@@ -197,15 +197,15 @@ fn by_variant(alloc: Global, instr: &Instr) -> Result<String, AllocError>
             rs2,
             offset,
         } => store(alloc, op, rs1, rs2, offset),
-        Instr::Immediate { op, rd, rs1, imm } => immediate(alloc, op, rd, rs1, imm),
+        Instr::OpImm { op, rd, rs1, imm } => immediate(alloc, op, rd, rs1, imm),
         Instr::Shift {
             op,
             rd,
             rs1,
             amount,
         } => shift(alloc, op, rd, rs1, amount),
-        Instr::Register { op, rd, rs1, rs2 } => operation(alloc, op, rd, rs1, rs2),
-        Instr::Multiply { op, rd, rs1, rs2 } => multiply(alloc, op, rd, rs1, rs2),
+        Instr::Op { op, rd, rs1, rs2 } => operation(alloc, op, rd, rs1, rs2),
+        Instr::MulDiv { op, rd, rs1, rs2 } => multiply(alloc, op, rd, rs1, rs2),
         Instr::Fence { .. } => String::from_str(alloc, "fence"),
         Instr::Ecall => String::from_str(alloc, "ecall"),
         Instr::Ebreak => String::from_str(alloc, "ebreak"),

@@ -2,14 +2,14 @@
 use Rattle.std.proofs.Common.{◌≡◌, ℕ, arith}
 use Rattle.std.specs.Prelude.{IfSome}
 use Rattle.std.proofs.lemmas.Bool.Decides.{nat_tests}
-use Rattle.sl_model.specs.Words.{opcode, HasBits, meaning, branch_op, load_op, store_op, immediate_op, shift_op, plain_register_op, register_op, multiply_op, jalr_meaning, branch_meaning, load_meaning, store_meaning, immediate_meaning, register_meaning, fence_meaning, system_meaning}
+use Rattle.sl_model.specs.Words.{opcode, HasBits, meaning, branch_op, load_op, store_op, immediate_op, shift_op, plain_register_op, register_op, mul_div_op, jalr_meaning, branch_meaning, load_meaning, store_meaning, immediate_meaning, register_meaning, fence_meaning, system_meaning}
 
 immediate_has : (word : ℕ) → opcode word ≡ 0b0010011 → IfSome (immediate_meaning word) (HasBits word)
 unfolding immediate_meaning shift_op immediate_op
 immediate_has word code = grind (arith, nat_tests)
 
 register_has : (word : ℕ) → opcode word ≡ 0b0110011 → IfSome (register_meaning word) (HasBits word)
-unfolding register_meaning multiply_op register_op plain_register_op
+unfolding register_meaning mul_div_op register_op plain_register_op
 register_has word code = grind (arith, nat_tests)
 
 pub meaning_has : (word : ℕ) → IfSome (meaning word) (HasBits word)

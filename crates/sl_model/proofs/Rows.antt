@@ -8,49 +8,49 @@ use Rattle.sl_model.specs.declared.instr.LoadOp.TheVariants.{Lb, Lw}
 use Rattle.sl_model.specs.declared.instr.ImmediateOp.TheVariants.{Addi, Sltiu}
 use Rattle.sl_model.specs.declared.instr.ShiftOp.TheVariants.{Srai}
 use Rattle.sl_model.specs.declared.instr.RegisterOp.TheVariants.{Sub, Sll, Slt, Sra}
-use Rattle.sl_model.specs.declared.instr.MultiplyOp.TheVariants.{Mul, Mulh, Mulhsu, Mulhu, Div, Rem}
-use Rattle.sl_model.specs.declared.instr.Instr.TheVariants.{Lui, Jal, Jalr, Branch, Load, Immediate, Shift, Ecall, Ebreak}
+use Rattle.sl_model.specs.declared.instr.MulDivOp.TheVariants.{Mul, Mulh, Mulhsu, Mulhu, Div, Rem}
+use Rattle.sl_model.specs.declared.instr.Instr.TheVariants.{Lui, Jal, Jalr, Branch, Load, OpImm, Shift, Ecall, Ebreak}
 use Rattle.sl_model.specs.declared.run_state.RunState.TheVariants.{Running}
 use Rattle.sl_model.specs.Pages.{Pages, byte_at, bytes_at, load_at}
 use Rattle.sl_model.specs.Words.{meaning, branch_meaning, branch_op, immediate_meaning, shift_op, immediate_op, fence_meaning, system_meaning}
-use Rattle.sl_model.specs.Arithmetic.{word_of, multiply_value, register_value, shift_value, immediate_value, immediate_word, branch_word, jump_word, load_value}
+use Rattle.sl_model.specs.Arithmetic.{word_of, mul_div_value, register_value, shift_value, immediate_value, immediate_word, branch_word, jump_word, load_value}
 use Rattle.sl_model.specs.State.{State}
 use Rattle.sl_model.specs.Step.{Stepped, Called, Trapped, execute, step}
 
 -- the least number by -1, and division by zero
-least_by_minus_one : multiply_value Div 0x80000000 0xffffffff ≡ 0x80000000
+least_by_minus_one : mul_div_value Div 0x80000000 0xffffffff ≡ 0x80000000
 least_by_minus_one = refl
 
-rest_of_least : multiply_value Rem 0x80000000 0xffffffff ≡ 0
+rest_of_least : mul_div_value Rem 0x80000000 0xffffffff ≡ 0
 rest_of_least = refl
 
-by_zero : multiply_value Div 5 0 ≡ 0xffffffff
+by_zero : mul_div_value Div 5 0 ≡ 0xffffffff
 by_zero = refl
 
-rest_by_zero : multiply_value Rem 0x80000000 0 ≡ 0x80000000
+rest_by_zero : mul_div_value Rem 0x80000000 0 ≡ 0x80000000
 rest_by_zero = refl
 
 -- -7 by 2 is -3, and leaves -1
-towards_zero : multiply_value Div 0xfffffff9 2 ≡ 0xfffffffd
+towards_zero : mul_div_value Div 0xfffffff9 2 ≡ 0xfffffffd
 towards_zero = refl
 
-sign_of_dividend : multiply_value Rem 0xfffffff9 2 ≡ 0xffffffff
+sign_of_dividend : mul_div_value Rem 0xfffffff9 2 ≡ 0xffffffff
 sign_of_dividend = refl
 
 -- -1 times 2 ^ 32 - 1 is -2 ^ 32 + 1
-mixed_of_ones : multiply_value Mulhsu 0xffffffff 0xffffffff ≡ 0xffffffff
+mixed_of_ones : mul_div_value Mulhsu 0xffffffff 0xffffffff ≡ 0xffffffff
 mixed_of_ones = refl
 
-high_of_ones : multiply_value Mulh 0xffffffff 0xffffffff ≡ 0
+high_of_ones : mul_div_value Mulh 0xffffffff 0xffffffff ≡ 0
 high_of_ones = refl
 
-high_of_least : multiply_value Mulh 0x80000000 0x80000000 ≡ 0x40000000
+high_of_least : mul_div_value Mulh 0x80000000 0x80000000 ≡ 0x40000000
 high_of_least = refl
 
-unsigned_of_ones : multiply_value Mulhu 0xffffffff 0xffffffff ≡ 0xfffffffe
+unsigned_of_ones : mul_div_value Mulhu 0xffffffff 0xffffffff ≡ 0xfffffffe
 unsigned_of_ones = refl
 
-low_of_ones : multiply_value Mul 0xffffffff 0xffffffff ≡ 1
+low_of_ones : mul_div_value Mul 0xffffffff 0xffffffff ≡ 1
 low_of_ones = refl
 
 -- shifts
@@ -102,7 +102,7 @@ negative_byte : load_value Lb 0x80 ≡ 0xffffff80
 negative_byte = refl
 
 -- words: li a0, 5; li a7, 93; ecall; and neighbors that mean nothing
-li_a0_5 : meaning 0x00500513 ≡ Some (Immediate Addi 10 0 5)
+li_a0_5 : meaning 0x00500513 ≡ Some (OpImm Addi 10 0 5)
 unfolding meaning immediate_meaning immediate_op
 li_a0_5 = refl
 

@@ -8,16 +8,16 @@ use Rattle.std.proofs.lemmas.List.{get_or-set_other}
 use Rattle.std.proofs.Math.ListN.{length-set, set}
 use Rattle.sl_model.specs.declared.instr.LoadOp.{LoadOp}
 use Rattle.sl_model.specs.declared.instr.Instr.{Instr}
-use Rattle.sl_model.specs.declared.instr.Instr.TheVariants.{Lui, Auipc, Jal, Jalr, Branch, Load, Store, Immediate, Shift, Register, Multiply, Fence, Ecall, Ebreak}
+use Rattle.sl_model.specs.declared.instr.Instr.TheVariants.{Lui, Auipc, Jal, Jalr, Branch, Load, Store, OpImm, Shift, Op, MulDiv, Fence, Ecall, Ebreak}
 use Rattle.sl_model.specs.Pages.{Pages, ArePages, load_at, store_at}
 use Rattle.sl_model.specs.PagesLaws.{AreWhole}
 use Rattle.sl_model.specs.Words.{IsWord, HasBits, meaning}
-use Rattle.sl_model.specs.Arithmetic.{word_add, branch_word, is_taken, load_width, load_value, store_width, upper_word, immediate_word, immediate_value, shift_value, register_value, multiply_value, jump_word}
+use Rattle.sl_model.specs.Arithmetic.{word_add, branch_word, is_taken, load_width, load_value, store_width, upper_word, immediate_word, immediate_value, shift_value, register_value, mul_div_value, jump_word}
 use Rattle.sl_model.specs.State.{State, IsState, register, set_register}
 use Rattle.sl_model.specs.Step.{Next, Stepped, Called, Trapped, step, execute, execute_word, execute_fetched, put_register, gone_to, after, even, address, jump, branch, pass, loaded, stored}
 use Rattle.sl_model.proofs.Meanings.{meaning_has}
 use Rattle.sl_model.proofs.Memory.{load_at-small, ArePages-stored, is_some-stored, AreWhole-stored}
-use Rattle.sl_model.proofs.Values.{IsWord-immediate, IsWord-immediate_value, IsWord-shift_value, IsWord-register_value, IsWord-multiply_value, IsWord-load_value}
+use Rattle.sl_model.proofs.Values.{IsWord-immediate, IsWord-immediate_value, IsWord-shift_value, IsWord-register_value, IsWord-mul_div_value, IsWord-load_value}
 
 -- ---- what an instruction may change: registers but x0, bytes of memory, pc, and the count by one
 
@@ -103,10 +103,10 @@ LeadsOn-execute s (Jalr rd rs1 offset) = LeadsOn-jump s rd _
 LeadsOn-execute s (Branch op rs1 rs2 offset) = LeadsOn-chosen s (is_taken op (register s rs1) (register s rs2)) (word_add s.pc (branch_word offset))
 LeadsOn-execute s (Load op rd rs1 offset) = LeadsOn-loaded s op rd _
 LeadsOn-execute s (Store op rs1 rs2 offset) = LeadsOn-stored s (address s rs1 offset) (store_width op) (register s rs2) _ refl
-LeadsOn-execute s (Immediate op rd rs1 imm) = IsNext-register s rd _ _
+LeadsOn-execute s (OpImm op rd rs1 imm) = IsNext-register s rd _ _
 LeadsOn-execute s (Shift op rd rs1 amount) = IsNext-register s rd _ _
-LeadsOn-execute s (Register op rd rs1 rs2) = IsNext-register s rd _ _
-LeadsOn-execute s (Multiply op rd rs1 rs2) = IsNext-register s rd _ _
+LeadsOn-execute s (Op op rd rs1 rs2) = IsNext-register s rd _ _
+LeadsOn-execute s (MulDiv op rd rs1 rs2) = IsNext-register s rd _ _
 LeadsOn-execute s (Fence high rd) = IsNext-place s (after s)
 LeadsOn-execute s Ecall = tt
 LeadsOn-execute s Ebreak = tt
@@ -196,13 +196,13 @@ module _ (s : State) (is : IsState s) where
   ranges-execute word (Branch op rs1 rs2 offset) has = ranges-chosen (is_taken op (register s rs1) (register s rs2)) (word_add s.pc (branch_word offset)) (omega arith)
   ranges-execute word (Load op rd rs1 offset) has = ranges-loaded op rd (load_at s.pages (address s rs1 offset) (load_width op)) (load_at-small s.pages (address s rs1 offset) (load_width op) is.pages)
   ranges-execute word (Store op rs1 rs2 offset) has = ranges-stored (address s rs1 offset) (store_width op) (register s rs2) _ refl
-  ranges-execute word (Immediate op rd rs1 imm) has =
+  ranges-execute word (OpImm op rd rs1 imm) has =
       ranges-register rd (immediate_value op (register s rs1) (immediate_word imm)) (after s) (IsWord-immediate_value op (register s rs1) (immediate_word imm) (register_word rs1) (IsWord-immediate imm (omega (arith, has.4)))) (omega arith)
   ranges-execute word (Shift op rd rs1 amount) has = ranges-register rd (shift_value op (register s rs1) amount) (after s) (IsWord-shift_value op (register s rs1) amount (register_word rs1)) (omega arith)
-  ranges-execute word (Register op rd rs1 rs2) has =
+  ranges-execute word (Op op rd rs1 rs2) has =
       ranges-register rd (register_value op (register s rs1) (register s rs2)) (after s) (IsWord-register_value op (register s rs1) (register s rs2) (register_word rs1) (register_word rs2)) (omega arith)
-  ranges-execute word (Multiply op rd rs1 rs2) has =
-      ranges-register rd (multiply_value op (register s rs1) (register s rs2)) (after s) (IsWord-multiply_value op (register s rs1) (register s rs2) (register_word rs1) (register_word rs2)) (omega arith)
+  ranges-execute word (MulDiv op rd rs1 rs2) has =
+      ranges-register rd (mul_div_value op (register s rs1) (register s rs2)) (after s) (IsWord-mul_div_value op (register s rs1) (register s rs2) (register_word rs1) (register_word rs2)) (omega arith)
   ranges-execute word (Fence high rd) has = ranges-place (after s) (omega arith)
   ranges-execute word Ecall has = tt
   ranges-execute word Ebreak has = tt

@@ -14,10 +14,10 @@ use Rattle.sl_model.specs.declared.instr.ShiftOp.{ShiftOp}
 use Rattle.sl_model.specs.declared.instr.ShiftOp.TheVariants.{Slli, Srli, Srai}
 use Rattle.sl_model.specs.declared.instr.RegisterOp.{RegisterOp}
 use Rattle.sl_model.specs.declared.instr.RegisterOp.TheVariants.{Add, Sub, Sll, Slt, Sltu, Xor, Srl, Sra, Or, And}
-use Rattle.sl_model.specs.declared.instr.MultiplyOp.{MultiplyOp}
-use Rattle.sl_model.specs.declared.instr.MultiplyOp.TheVariants.{Mul, Mulh, Mulhsu, Mulhu, Div, Divu, Rem, Remu}
+use Rattle.sl_model.specs.declared.instr.MulDivOp.{MulDivOp}
+use Rattle.sl_model.specs.declared.instr.MulDivOp.TheVariants.{Mul, Mulh, Mulhsu, Mulhu, Div, Divu, Rem, Remu}
 use Rattle.sl_model.specs.Words.{IsWord}
-use Rattle.sl_model.specs.Arithmetic.{signed, word_of, word_add, immediate_word, truth, upper_half, immediate_value, shift_value, register_value, multiply_value, load_width, load_value}
+use Rattle.sl_model.specs.Arithmetic.{signed, word_of, word_add, immediate_word, truth, upper_half, immediate_value, shift_value, register_value, mul_div_value, load_width, load_value}
 
 pub IsWord-word_of : (z : ℤ) → IsWord (word_of z)
 IsWord-word_of (pos n) = omega arith
@@ -84,15 +84,15 @@ IsWord-upper_half x y first second =
     let below : cast_unsigned w64 (x *ℤ y) < 2 ^ 64 = below_64 (x *ℤ y) product in
     omega arith
 
-pub IsWord-multiply_value : (op : MultiplyOp) (a b : ℕ) → IsWord a → IsWord b → IsWord (multiply_value op a b)
-IsWord-multiply_value Mul a b first second = omega arith
-IsWord-multiply_value Mulh a b first second = IsWord-upper_half (signed a) (signed b) (abs-signed a first) (omega (arith, abs-signed b second))
-IsWord-multiply_value Mulhsu a b first second = IsWord-upper_half (signed a) (pos b) (abs-signed a first) second
-IsWord-multiply_value Mulhu a b first second = omega (arith, product_below a b first second)
-IsWord-multiply_value Div a b first second = chosen (b == 0) (2 ^ 32 - 1) (word_of (int_div (signed a) (signed b))) (omega arith) (IsWord-word_of (int_div (signed a) (signed b)))
-IsWord-multiply_value Divu a b first second = chosen (b == 0) (2 ^ 32 - 1) (a / b) (omega arith) (quotient_below a b first)
-IsWord-multiply_value Rem a b first second = chosen (b == 0) a (word_of (int_rem (signed a) (signed b))) first (IsWord-word_of (int_rem (signed a) (signed b)))
-IsWord-multiply_value Remu a b first second = chosen (b == 0) a (a % b) first (remainder_below a b first)
+pub IsWord-mul_div_value : (op : MulDivOp) (a b : ℕ) → IsWord a → IsWord b → IsWord (mul_div_value op a b)
+IsWord-mul_div_value Mul a b first second = omega arith
+IsWord-mul_div_value Mulh a b first second = IsWord-upper_half (signed a) (signed b) (abs-signed a first) (omega (arith, abs-signed b second))
+IsWord-mul_div_value Mulhsu a b first second = IsWord-upper_half (signed a) (pos b) (abs-signed a first) second
+IsWord-mul_div_value Mulhu a b first second = omega (arith, product_below a b first second)
+IsWord-mul_div_value Div a b first second = chosen (b == 0) (2 ^ 32 - 1) (word_of (int_div (signed a) (signed b))) (omega arith) (IsWord-word_of (int_div (signed a) (signed b)))
+IsWord-mul_div_value Divu a b first second = chosen (b == 0) (2 ^ 32 - 1) (a / b) (omega arith) (quotient_below a b first)
+IsWord-mul_div_value Rem a b first second = chosen (b == 0) a (word_of (int_rem (signed a) (signed b))) first (IsWord-word_of (int_rem (signed a) (signed b)))
+IsWord-mul_div_value Remu a b first second = chosen (b == 0) a (a % b) first (remainder_below a b first)
 
 pub IsWord-load_value : (op : LoadOp) (n : ℕ) → n < 256 ^ load_width op → IsWord (load_value op n)
 IsWord-load_value Lb n small = grind (arith, nat_tests)

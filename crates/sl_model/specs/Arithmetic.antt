@@ -13,8 +13,8 @@ use Rattle.sl_model.specs.declared.instr.ShiftOp.{ShiftOp}
 use Rattle.sl_model.specs.declared.instr.ShiftOp.TheVariants.{Slli, Srli, Srai}
 use Rattle.sl_model.specs.declared.instr.RegisterOp.{RegisterOp}
 use Rattle.sl_model.specs.declared.instr.RegisterOp.TheVariants.{Add, Sub, Sll, Slt, Sltu, Xor, Srl, Sra, Or, And}
-use Rattle.sl_model.specs.declared.instr.MultiplyOp.{MultiplyOp}
-use Rattle.sl_model.specs.declared.instr.MultiplyOp.TheVariants.{Mul, Mulh, Mulhsu, Mulhu, Div, Divu, Rem, Remu}
+use Rattle.sl_model.specs.declared.instr.MulDivOp.{MulDivOp}
+use Rattle.sl_model.specs.declared.instr.MulDivOp.TheVariants.{Mul, Mulh, Mulhsu, Mulhu, Div, Divu, Rem, Remu}
 
 -- a word as a number with a sign, in two's complement
 abbrev pub signed : ℕ → ℤ
@@ -47,11 +47,11 @@ upper_word imm = imm * 2 ^ 12
 
 -- the word that an imm[12:1] stands for, which is half an offset
 abbrev pub branch_word : ℕ → ℕ
-branch_word half = sign_extend 13 (2 * half)
+branch_word half_offset = sign_extend 13 (2 * half_offset)
 
 -- the word that an imm[20:1] stands for, which is half an offset
 abbrev pub jump_word : ℕ → ℕ
-jump_word half = sign_extend 21 (2 * half)
+jump_word half_offset = sign_extend 21 (2 * half_offset)
 
 -- 1 where a condition holds, else 0
 abbrev pub truth : Bool → ℕ
@@ -111,15 +111,15 @@ upper_half product = cast_unsigned w64 product / 2 ^ 32
 
 -- Division rounds towards zero, and a remainder has the sign of the dividend. By zero the quotient is all ones
 -- and the remainder the dividend. The least number by -1 gives itself, with the remainder 0.
-abbrev pub multiply_value : MultiplyOp → ℕ → ℕ → ℕ
-multiply_value Mul a b = (a * b) % 2 ^ 32
-multiply_value Mulh a b = upper_half (signed a *ℤ signed b)
-multiply_value Mulhsu a b = upper_half (signed a *ℤ pos b)
-multiply_value Mulhu a b = a * b / 2 ^ 32
-multiply_value Div a b = if b == 0 then 2 ^ 32 - 1 else word_of (int_div (signed a) (signed b))
-multiply_value Divu a b = if b == 0 then 2 ^ 32 - 1 else a / b
-multiply_value Rem a b = if b == 0 then a else word_of (int_rem (signed a) (signed b))
-multiply_value Remu a b = if b == 0 then a else a % b
+abbrev pub mul_div_value : MulDivOp → ℕ → ℕ → ℕ
+mul_div_value Mul a b = (a * b) % 2 ^ 32
+mul_div_value Mulh a b = upper_half (signed a *ℤ signed b)
+mul_div_value Mulhsu a b = upper_half (signed a *ℤ pos b)
+mul_div_value Mulhu a b = a * b / 2 ^ 32
+mul_div_value Div a b = if b == 0 then 2 ^ 32 - 1 else word_of (int_div (signed a) (signed b))
+mul_div_value Divu a b = if b == 0 then 2 ^ 32 - 1 else a / b
+mul_div_value Rem a b = if b == 0 then a else word_of (int_rem (signed a) (signed b))
+mul_div_value Remu a b = if b == 0 then a else a % b
 
 -- how many bytes an access takes
 abbrev pub load_width : LoadOp → ℕ

@@ -3,11 +3,11 @@ use Rattle.std.specs.Prelude.{ℕ, ◌+◌, ◌-◌, ◌%◌, ◌==◌, Option, 
 use Rattle.sl_model.specs.declared.instr.LoadOp.{LoadOp}
 use Rattle.sl_model.specs.declared.instr.StoreOp.{StoreOp}
 use Rattle.sl_model.specs.declared.instr.Instr.{Instr}
-use Rattle.sl_model.specs.declared.instr.Instr.TheVariants.{Lui, Auipc, Jal, Jalr, Branch, Load, Store, Immediate, Shift, Register, Multiply, Fence, Ecall, Ebreak}
+use Rattle.sl_model.specs.declared.instr.Instr.TheVariants.{Lui, Auipc, Jal, Jalr, Branch, Load, Store, OpImm, Shift, Op, MulDiv, Fence, Ecall, Ebreak}
 use Rattle.sl_model.specs.declared.traps.TheConstants.{MISALIGNED, FETCH, ILLEGAL, BREAKPOINT, LOAD_FAULT, STORE_FAULT}
 use Rattle.sl_model.specs.Pages.{Pages, load_at, store_at}
 use Rattle.sl_model.specs.Words.{meaning}
-use Rattle.sl_model.specs.Arithmetic.{word_add, immediate_word, upper_word, branch_word, jump_word, is_taken, immediate_value, shift_value, register_value, multiply_value, load_width, load_value, store_width}
+use Rattle.sl_model.specs.Arithmetic.{word_add, immediate_word, upper_word, branch_word, jump_word, is_taken, immediate_value, shift_value, register_value, mul_div_value, load_width, load_value, store_width}
 use Rattle.sl_model.specs.State.{State, register, set_register}
 
 -- what the next instruction does
@@ -75,15 +75,18 @@ store s op addr value = stored s (store_at s.pages addr (store_width op) value)
 unfoldable pub execute : State → Instr → Next
 execute s (Lui rd imm) = advance s rd (upper_word imm)
 execute s (Auipc rd imm) = advance s rd (word_add s.pc (upper_word imm))
-execute s (Jal rd offset) = jump s rd (word_add s.pc (jump_word offset))
+execute s (Jal rd half_offset) = jump s rd (word_add s.pc (jump_word half_offset))
 execute s (Jalr rd rs1 offset) = jump s rd (even (address s rs1 offset))
-execute s (Branch op rs1 rs2 offset) = if is_taken op (register s rs1) (register s rs2) then branch s (word_add s.pc (branch_word offset)) else pass s
+execute s (Branch op rs1 rs2 half_offset) =
+    if is_taken op (register s rs1) (register s rs2)
+    then branch s (word_add s.pc (branch_word half_offset))
+    else pass s
 execute s (Load op rd rs1 offset) = load s op rd (address s rs1 offset)
 execute s (Store op rs1 rs2 offset) = store s op (address s rs1 offset) (register s rs2)
-execute s (Immediate op rd rs1 imm) = advance s rd (immediate_value op (register s rs1) (immediate_word imm))
+execute s (OpImm op rd rs1 imm) = advance s rd (immediate_value op (register s rs1) (immediate_word imm))
 execute s (Shift op rd rs1 amount) = advance s rd (shift_value op (register s rs1) amount)
-execute s (Register op rd rs1 rs2) = advance s rd (register_value op (register s rs1) (register s rs2))
-execute s (Multiply op rd rs1 rs2) = advance s rd (multiply_value op (register s rs1) (register s rs2))
+execute s (Op op rd rs1 rs2) = advance s rd (register_value op (register s rs1) (register s rs2))
+execute s (MulDiv op rd rs1 rs2) = advance s rd (mul_div_value op (register s rs1) (register s rs2))
 execute s (Fence high rd) = pass s
 execute s Ecall = Called
 execute s Ebreak = Trapped BREAKPOINT

@@ -71,7 +71,7 @@ pub enum RegisterOp {
 
 /// Operations of two registers of the "M" extension.
 #[derive(Clone, Copy, Debug, PartialEq, Eq)]
-pub enum MultiplyOp {
+pub enum MulDivOp {
     Mul,
     Mulh,
     Mulhsu,
@@ -101,7 +101,7 @@ pub enum Instr {
     Jal {
         rd: Register,
         /// imm[20:1]: half the offset.
-        offset: Bits<20>,
+        half_offset: Bits<20>,
     },
     /// A jump relative to a register, which leaves the place after it in `rd`.
     Jalr {
@@ -116,7 +116,7 @@ pub enum Instr {
         rs1: Register,
         rs2: Register,
         /// imm[12:1]: half the offset.
-        offset: Bits<12>,
+        half_offset: Bits<12>,
     },
     /// `rd` becomes what memory holds at `rs1` and the offset.
     Load {
@@ -134,7 +134,7 @@ pub enum Instr {
         /// imm[11:0].
         offset: Bits<12>,
     },
-    Immediate {
+    OpImm {
         op: ImmediateOp,
         rd: Register,
         rs1: Register,
@@ -148,14 +148,14 @@ pub enum Instr {
         /// shamt[4:0].
         amount: Bits<5>,
     },
-    Register {
+    Op {
         op: RegisterOp,
         rd: Register,
         rs1: Register,
         rs2: Register,
     },
-    Multiply {
-        op: MultiplyOp,
+    MulDiv {
+        op: MulDivOp,
         rd: Register,
         rs1: Register,
         rs2: Register,

@@ -4,7 +4,7 @@ ghost use Rattle.std.specs.Prelude.{◌≡◌, ℕ, ◌+◌, ◌<◌, ◌^◌, S
 ghost use Rattle.sl_model.specs.declared.instr.Instr.{Instr};
 ghost use Rattle.sl_model.specs.declared.instr.ImmediateOp.{ImmediateOp};
 ghost use Rattle.sl_model.specs.declared.instr.LoadOp.{LoadOp};
-ghost use Rattle.sl_model.specs.declared.instr.MultiplyOp.{MultiplyOp};
+ghost use Rattle.sl_model.specs.declared.instr.MulDivOp.{MulDivOp};
 ghost use Rattle.sl_model.specs.declared.instr.RegisterOp.{RegisterOp};
 ghost use Rattle.sl_model.specs.declared.instr.ShiftOp.{ShiftOp};
 ghost use Rattle.sl_model.specs.Arithmetic as value;
@@ -35,7 +35,7 @@ pub fn operations_give_words()
     ensures immediate { (op : ImmediateOp) (a b : ℕ) → IsWord a → IsWord b → IsWord (value.immediate_value op a b) }
     ensures shift { (op : ShiftOp) (a amount : ℕ) → IsWord a → IsWord (value.shift_value op a amount) }
     ensures register { (op : RegisterOp) (a b : ℕ) → IsWord a → IsWord b → IsWord (value.register_value op a b) }
-    ensures multiply { (op : MultiplyOp) (a b : ℕ) → IsWord a → IsWord b → IsWord (value.multiply_value op a b) }
+    ensures multiply { (op : MulDivOp) (a b : ℕ) → IsWord a → IsWord b → IsWord (value.mul_div_value op a b) }
     ensures load { (op : LoadOp) (n : ℕ) → n < 256 ^ value.load_width op → IsWord (value.load_value op n) }
 {}
 

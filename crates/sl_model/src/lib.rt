@@ -7,13 +7,14 @@ mod bus;
 mod instr;
 mod laws;
 mod layout;
+pub mod opcodes;
 mod run_state;
 mod traps;
 
 pub use bits::Bits;
 pub use bus::Bus;
 pub use instr::{
-    BranchOp, ImmediateOp, Instr, LoadOp, MultiplyOp, Register, RegisterOp, ShiftOp, StoreOp,
+    BranchOp, ImmediateOp, Instr, LoadOp, MulDivOp, Register, RegisterOp, ShiftOp, StoreOp,
 };
 pub use laws::{
     one_meaning, one_word, operations_give_words, steps_keep_the_layout, steps_lead_to_states,

@@ -3,7 +3,7 @@
 use super::one_page::OnePage;
 use super::{LEAST, ONES, PLACE, run, value, x};
 use crate::Outcome;
-use sl_model::{Bits, ImmediateOp, Instr, MultiplyOp, RegisterOp, ShiftOp};
+use sl_model::{Bits, ImmediateOp, Instr, MulDivOp, RegisterOp, ShiftOp};
 use std::test::Fail;
 
 const GREATEST: u32 = 0x7fff_ffff;
@@ -43,7 +43,7 @@ fn registers(rt: HostRuntime) -> Result<(), Fail> {
         (RegisterOp::And, ONES, LEAST, LEAST),
         (RegisterOp::And, LEAST, GREATEST, 0),
     ] {
-        let instr = Instr::Register {
+        let instr = Instr::Op {
             op,
             rd: x(3),
             rs1: x(1),
@@ -59,25 +59,25 @@ fn products(rt: HostRuntime) -> Result<(), Fail> {
     let mut page = OnePage::zeros();
     let memory = &mut page;
     for (op, first, second, expected) in [
-        (MultiplyOp::Mul, 0, ONES, 0),
-        (MultiplyOp::Mul, ONES, ONES, 1),
-        (MultiplyOp::Mul, LEAST, ONES, LEAST),
-        (MultiplyOp::Mul, GREATEST, 2, 0xffff_fffe),
-        (MultiplyOp::Mulh, ONES, ONES, 0),
-        (MultiplyOp::Mulh, LEAST, LEAST, 0x4000_0000),
-        (MultiplyOp::Mulh, LEAST, GREATEST, 0xc000_0000),
-        (MultiplyOp::Mulh, ONES, 1, ONES),
-        (MultiplyOp::Mulh, GREATEST, GREATEST, 0x3fff_ffff),
-        (MultiplyOp::Mulhsu, ONES, ONES, ONES),
-        (MultiplyOp::Mulhsu, LEAST, ONES, LEAST),
-        (MultiplyOp::Mulhsu, GREATEST, ONES, 0x7fff_fffe),
-        (MultiplyOp::Mulhsu, 1, LEAST, 0),
-        (MultiplyOp::Mulhu, ONES, ONES, 0xffff_fffe),
-        (MultiplyOp::Mulhu, LEAST, LEAST, 0x4000_0000),
-        (MultiplyOp::Mulhu, 1, ONES, 0),
-        (MultiplyOp::Mulhu, 0, 0, 0),
+        (MulDivOp::Mul, 0, ONES, 0),
+        (MulDivOp::Mul, ONES, ONES, 1),
+        (MulDivOp::Mul, LEAST, ONES, LEAST),
+        (MulDivOp::Mul, GREATEST, 2, 0xffff_fffe),
+        (MulDivOp::Mulh, ONES, ONES, 0),
+        (MulDivOp::Mulh, LEAST, LEAST, 0x4000_0000),
+        (MulDivOp::Mulh, LEAST, GREATEST, 0xc000_0000),
+        (MulDivOp::Mulh, ONES, 1, ONES),
+        (MulDivOp::Mulh, GREATEST, GREATEST, 0x3fff_ffff),
+        (MulDivOp::Mulhsu, ONES, ONES, ONES),
+        (MulDivOp::Mulhsu, LEAST, ONES, LEAST),
+        (MulDivOp::Mulhsu, GREATEST, ONES, 0x7fff_fffe),
+        (MulDivOp::Mulhsu, 1, LEAST, 0),
+        (MulDivOp::Mulhu, ONES, ONES, 0xffff_fffe),
+        (MulDivOp::Mulhu, LEAST, LEAST, 0x4000_0000),
+        (MulDivOp::Mulhu, 1, ONES, 0),
+        (MulDivOp::Mulhu, 0, 0, 0),
     ] {
-        let instr = Instr::Multiply {
+        let instr = Instr::MulDiv {
             op,
             rd: x(3),
             rs1: x(1),
@@ -93,25 +93,25 @@ fn quotients(rt: HostRuntime) -> Result<(), Fail> {
     let mut page = OnePage::zeros();
     let memory = &mut page;
     for (op, first, second, expected) in [
-        (MultiplyOp::Div, LEAST, ONES, LEAST),
-        (MultiplyOp::Div, LEAST, 0, ONES),
-        (MultiplyOp::Div, 0, 0, ONES),
-        (MultiplyOp::Div, 0xffff_fff9, 2, 0xffff_fffd),
-        (MultiplyOp::Div, 7, 0xffff_fffe, 0xffff_fffd),
-        (MultiplyOp::Div, LEAST, 1, LEAST),
-        (MultiplyOp::Divu, LEAST, ONES, 0),
-        (MultiplyOp::Divu, ONES, 0, ONES),
-        (MultiplyOp::Divu, ONES, 1, ONES),
-        (MultiplyOp::Divu, ONES, LEAST, 1),
-        (MultiplyOp::Rem, LEAST, ONES, 0),
-        (MultiplyOp::Rem, LEAST, 0, LEAST),
-        (MultiplyOp::Rem, 0xffff_fff9, 2, ONES),
-        (MultiplyOp::Rem, 7, 0xffff_fffe, 1),
-        (MultiplyOp::Remu, LEAST, ONES, LEAST),
-        (MultiplyOp::Remu, ONES, 0, ONES),
-        (MultiplyOp::Remu, ONES, LEAST, GREATEST),
+        (MulDivOp::Div, LEAST, ONES, LEAST),
+        (MulDivOp::Div, LEAST, 0, ONES),
+        (MulDivOp::Div, 0, 0, ONES),
+        (MulDivOp::Div, 0xffff_fff9, 2, 0xffff_fffd),
+        (MulDivOp::Div, 7, 0xffff_fffe, 0xffff_fffd),
+        (MulDivOp::Div, LEAST, 1, LEAST),
+        (MulDivOp::Divu, LEAST, ONES, 0),
+        (MulDivOp::Divu, ONES, 0, ONES),
+        (MulDivOp::Divu, ONES, 1, ONES),
+        (MulDivOp::Divu, ONES, LEAST, 1),
+        (MulDivOp::Rem, LEAST, ONES, 0),
+        (MulDivOp::Rem, LEAST, 0, LEAST),
+        (MulDivOp::Rem, 0xffff_fff9, 2, ONES),
+        (MulDivOp::Rem, 7, 0xffff_fffe, 1),
+        (MulDivOp::Remu, LEAST, ONES, LEAST),
+        (MulDivOp::Remu, ONES, 0, ONES),
+        (MulDivOp::Remu, ONES, LEAST, GREATEST),
     ] {
-        let instr = Instr::Multiply {
+        let instr = Instr::MulDiv {
             op,
             rd: x(3),
             rs1: x(1),
@@ -146,7 +146,7 @@ fn immediates(rt: HostRuntime) -> Result<(), Fail> {
         (ImmediateOp::Andi, ONES, 0, 0),
     ] {
         let imm = Bits::<12>::low(imm);
-        let instr = Instr::Immediate {
+        let instr = Instr::OpImm {
             op,
             rd: x(3),
             rs1: x(1),
