@@ -27,6 +27,7 @@ impl Frame {
     }
 
     /// The number in `width` bytes, the lowest first.
+    #[inline(always)]
     pub(crate) fn load(&self, offset: usize, width: u8) -> u32
         requires width { IsWidth width }
         requires within { offset + width ≤ 4096 }
@@ -45,6 +46,7 @@ impl Frame {
     }
 
     /// Writes the low `width` bytes of a value, the lowest first.
+    #[inline(always)]
     #[tactic(auto, unfolding(sl_model::specs::Pages::put_bytes))]
     pub(crate) fn store(&mut self, offset: usize, width: u8, value: u32)
         requires width { IsWidth width }
@@ -79,6 +81,7 @@ impl Frame {
     ghost use Rattle.page_frames.specs.Fields.{Marks};
 
     /// Marks the page as dirty, where it is not.
+    #[inline(always)]
     pub(crate) fn mark(&mut self, dirty: &mut Vec<u32>, page: u32)
         requires { IfNone self.old.place (vec_len dirty.old < vec_capacity dirty.old) }
         ensures bytes { self.new.bytes ≡ self.old.bytes }
@@ -93,6 +96,7 @@ impl Frame {
 }
 
 /// The bytes of a word, the lowest first.
+#[inline(always)]
 pub(crate) fn bytes_of(value: u32) -> [u8; 4]
     ensures { result ≡ low_bytes 4 value }
 {

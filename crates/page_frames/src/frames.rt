@@ -229,6 +229,8 @@ impl Frames {
 
 impl Frames {
     /// The number in some bytes, which may lie in two pages.
+    #[cold]
+    #[inline(never)]
     fn load_across(&self, addr: u64, count: u8) -> Option<u32>
         requires address { addr + count < 2 ^ 33 }
         requires few { count ≤ 4 }
@@ -244,6 +246,8 @@ impl Frames {
     }
 
     /// Writes bytes that may lie in two pages, where all of them are mapped.
+    #[cold]
+    #[inline(never)]
     fn store_across(&mut self, addr: u32, bytes: &[u8]) -> bool
         requires { length bytes.now ≤ 4 }
         ensures mapped { result ≡ is_some (bytes_at self.old.pages addr (length bytes.now)) }
@@ -257,7 +261,7 @@ impl Frames {
     }
 
     /// Writes the low `width` bytes of a value, where all of them are mapped.
-    #[inline]
+    #[inline(always)]
     fn put(&mut self, addr: u32, width: u8, value: u32) -> bool
         requires { IsWidth width }
         ensures mapped { result ≡ is_some (bytes_at self.old.pages addr width) }
@@ -284,6 +288,7 @@ impl Bus for Frames {
 
     ghost is_marking = { λ _. true };
 
+    #[inline(always)]
     fn load(&self, addr: u32, width: u8) -> Option<u32> {
         let offset = (addr % 4096) as usize;
         if offset + usize::from(width) > PAGE_LEN {
@@ -293,6 +298,7 @@ impl Bus for Frames {
         Some(frame.load(offset, width))
     }
 
+    #[inline(always)]
     fn store(&mut self, addr: u32, width: u8, value: u32) -> bool
         requires { IsWidth width }
         ensures mapped { result ≡ is_some (store_at self.old.pages addr width value) }

@@ -8,6 +8,7 @@ use crate::{fields, operations};
 use sl_model::{Instr, opcodes, words_mean};
 
 /// A word of opcode JALR.
+#[inline(always)]
 #[tactic(auto, unfolding(sl_model::specs::Words::jalr_meaning))]
 fn register_jump(word: u32) -> Option<Instr>
     ensures { result ≡ jalr_meaning word }
@@ -22,6 +23,7 @@ fn register_jump(word: u32) -> Option<Instr>
 }
 
 /// A word of opcode BRANCH.
+#[inline(always)]
 #[tactic(auto, unfolding(sl_model::specs::Words::branch_meaning))]
 fn branch(word: u32) -> Option<Instr>
     ensures { result ≡ branch_meaning word }
@@ -39,6 +41,7 @@ fn branch(word: u32) -> Option<Instr>
 }
 
 /// A word of opcode LOAD.
+#[inline(always)]
 #[tactic(auto, unfolding(sl_model::specs::Words::load_meaning))]
 fn load(word: u32) -> Option<Instr>
     ensures { result ≡ load_meaning word }
@@ -56,6 +59,7 @@ fn load(word: u32) -> Option<Instr>
 }
 
 /// A word of opcode STORE.
+#[inline(always)]
 #[tactic(auto, unfolding(sl_model::specs::Words::store_meaning))]
 fn store(word: u32) -> Option<Instr>
     ensures { result ≡ store_meaning word }
@@ -73,6 +77,7 @@ fn store(word: u32) -> Option<Instr>
 }
 
 /// A word of opcode OP-IMM.
+#[inline(always)]
 #[tactic(auto, unfolding(sl_model::specs::Words::immediate_meaning))]
 fn immediate(word: u32) -> Option<Instr>
     ensures { result ≡ immediate_meaning word }
@@ -96,6 +101,7 @@ fn immediate(word: u32) -> Option<Instr>
 }
 
 /// A word of opcode OP.
+#[inline(always)]
 #[tactic(auto, unfolding(sl_model::specs::Words::register_meaning))]
 fn register(word: u32) -> Option<Instr>
     ensures { result ≡ register_meaning word }
@@ -114,6 +120,7 @@ fn register(word: u32) -> Option<Instr>
 }
 
 /// A word of opcode MISC-MEM.
+#[inline(always)]
 #[tactic(auto, unfolding(sl_model::specs::Words::fence_meaning))]
 fn fence(word: u32) -> Option<Instr>
     ensures { result ≡ fence_meaning word }
@@ -127,6 +134,7 @@ fn fence(word: u32) -> Option<Instr>
 }
 
 /// A word of opcode SYSTEM.
+#[inline(always)]
 #[tactic(auto, unfolding(sl_model::specs::Words::system_meaning))]
 fn system(word: u32) -> Option<Instr>
     ensures { result ≡ system_meaning word }
@@ -139,6 +147,7 @@ fn system(word: u32) -> Option<Instr>
 }
 
 /// The instruction that a word means; `None` exactly where it means none.
+#[inline(always)]
 pub fn decode(word: u32) -> Option<Instr>
     ensures value { result ≡ meaning word }
     ensures found { IfSome result (Means word) }
@@ -149,6 +158,7 @@ pub fn decode(word: u32) -> Option<Instr>
 }
 
 /// The instruction, by the opcode.
+#[inline(always)]
 #[tactic(auto, unfolding(sl_model::specs::Words::meaning))]
 fn by_opcode(word: u32) -> Option<Instr>
     ensures { result ≡ meaning word }

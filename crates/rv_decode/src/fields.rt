@@ -7,6 +7,7 @@ ghost use Rattle.sl_model.specs.Words.{bits, opcode as opcode_of, funct3 as func
 use sl_model::{Bits, Register};
 
 /// Bits 6 to 0.
+#[inline(always)]
 pub fn opcode(word: u32) -> u32
     ensures { result ≡ opcode_of word }
 {
@@ -14,6 +15,7 @@ pub fn opcode(word: u32) -> u32
 }
 
 /// Bits 14 to 12.
+#[inline(always)]
 pub fn funct3(word: u32) -> u32
     ensures { result ≡ funct3_of word }
 {
@@ -21,6 +23,7 @@ pub fn funct3(word: u32) -> u32
 }
 
 /// Bits 31 to 25.
+#[inline(always)]
 pub fn funct7(word: u32) -> u32
     ensures { result ≡ funct7_of word }
 {
@@ -28,6 +31,7 @@ pub fn funct7(word: u32) -> u32
 }
 
 /// Bits 11 to 7: the register that is written.
+#[inline(always)]
 pub fn rd(word: u32) -> Register
     ensures { result ≡ rd_of word }
 {
@@ -35,6 +39,7 @@ pub fn rd(word: u32) -> Register
 }
 
 /// Bits 19 to 15: the first register that is read.
+#[inline(always)]
 pub fn rs1(word: u32) -> Register
     ensures { result ≡ rs1_of word }
 {
@@ -42,6 +47,7 @@ pub fn rs1(word: u32) -> Register
 }
 
 /// Bits 24 to 20: the second register that is read, or the amount of a shift.
+#[inline(always)]
 pub fn rs2(word: u32) -> Register
     ensures { result ≡ rs2_of word }
 {
@@ -49,6 +55,7 @@ pub fn rs2(word: u32) -> Register
 }
 
 /// imm[11:0] of the I format, in bits 31 to 20.
+#[inline(always)]
 pub fn immediate(word: u32) -> Bits<12>
     ensures { result ≡ i_immediate word }
 {
@@ -56,6 +63,7 @@ pub fn immediate(word: u32) -> Bits<12>
 }
 
 /// imm[31:12] of the U format, in bits 31 to 12.
+#[inline(always)]
 pub fn upper_immediate(word: u32) -> Bits<20>
     ensures { result ≡ u_immediate word }
 {
@@ -63,6 +71,7 @@ pub fn upper_immediate(word: u32) -> Bits<20>
 }
 
 /// Bits 31 to 15, which FENCE keeps.
+#[inline(always)]
 pub fn fence_fields(word: u32) -> Bits<17>
     ensures { result ≡ bits 31 15 word }
 {
@@ -70,6 +79,7 @@ pub fn fence_fields(word: u32) -> Bits<17>
 }
 
 /// A number of 32 bits whose low `width` bits are `low` and whose other bits are `high`.
+#[inline(always)]
 pub fn joined(high: u32, low: u32, width: u32) -> u32
     requires narrow { width < 32 }
     requires low { low < 2 ^ width }
@@ -80,6 +90,7 @@ pub fn joined(high: u32, low: u32, width: u32) -> u32
 }
 
 /// imm[11:0] of the S format: imm[11:5] in bits 31 to 25, imm[4:0] in bits 11 to 7.
+#[inline(always)]
 pub fn store_offset(word: u32) -> Bits<12>
     ensures { result ≡ s_immediate word }
 {
@@ -88,6 +99,7 @@ pub fn store_offset(word: u32) -> Bits<12>
 
 /// imm[12:1] of the B format: imm[12] in bit 31, imm[11] in bit 7, imm[10:5] in bits 30 to 25, imm[4:1] in bits 11
 /// to 8.
+#[inline(always)]
 pub fn branch_half_offset(word: u32) -> Bits<12>
     ensures { result ≡ b_immediate word }
 {
@@ -98,6 +110,7 @@ pub fn branch_half_offset(word: u32) -> Bits<12>
 
 /// imm[20:1] of the J format: imm[20] in bit 31, imm[19:12] in bits 19 to 12, imm[11] in bit 20, imm[10:1] in bits 30
 /// to 21.
+#[inline(always)]
 pub fn jump_half_offset(word: u32) -> Bits<20>
     ensures { result ≡ j_immediate word }
 {

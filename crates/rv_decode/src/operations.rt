@@ -6,6 +6,7 @@ ghost use Rattle.sl_model.specs.Words.{branch_op, load_op, store_op, immediate_o
 use sl_model::{BranchOp, ImmediateOp, LoadOp, MulDivOp, RegisterOp, ShiftOp, StoreOp};
 
 /// The branch with this funct3.
+#[inline(always)]
 #[tactic(auto, unfolding(sl_model::specs::Words::branch_op))]
 pub fn branch(funct3: u32) -> Option<BranchOp>
     ensures { result ≡ branch_op funct3 }
@@ -22,6 +23,7 @@ pub fn branch(funct3: u32) -> Option<BranchOp>
 }
 
 /// The load with this funct3.
+#[inline(always)]
 #[tactic(auto, unfolding(sl_model::specs::Words::load_op))]
 pub fn load(funct3: u32) -> Option<LoadOp>
     ensures { result ≡ load_op funct3 }
@@ -37,6 +39,7 @@ pub fn load(funct3: u32) -> Option<LoadOp>
 }
 
 /// The store with this funct3.
+#[inline(always)]
 #[tactic(auto, unfolding(sl_model::specs::Words::store_op))]
 pub fn store(funct3: u32) -> Option<StoreOp>
     ensures { result ≡ store_op funct3 }
@@ -50,6 +53,7 @@ pub fn store(funct3: u32) -> Option<StoreOp>
 }
 
 /// The operation with an immediate that has this funct3; 001 and 101 are shifts.
+#[inline(always)]
 #[tactic(auto, unfolding(sl_model::specs::Words::immediate_op))]
 pub fn immediate(funct3: u32) -> Option<ImmediateOp>
     ensures { result ≡ immediate_op funct3 }
@@ -66,6 +70,7 @@ pub fn immediate(funct3: u32) -> Option<ImmediateOp>
 }
 
 /// The shift by an amount in the word that has this funct7 and funct3.
+#[inline(always)]
 #[tactic(auto, unfolding(sl_model::specs::Words::shift_op))]
 pub fn shift(funct7: u32, funct3: u32) -> Option<ShiftOp>
     ensures { result ≡ shift_op funct7 funct3 }
@@ -79,6 +84,7 @@ pub fn shift(funct7: u32, funct3: u32) -> Option<ShiftOp>
 }
 
 /// The operation of two registers with this funct7 and funct3, outside the "M" extension.
+#[inline(always)]
 #[tactic(auto, unfolding(sl_model::specs::Words::register_op, sl_model::specs::Words::plain_register_op))]
 pub fn register(funct7: u32, funct3: u32) -> Option<RegisterOp>
     ensures { result ≡ register_op funct7 funct3 }
@@ -99,6 +105,7 @@ pub fn register(funct7: u32, funct3: u32) -> Option<RegisterOp>
 }
 
 /// The operation of the "M" extension with this funct3.
+#[inline(always)]
 #[tactic(auto, unfolding(sl_model::specs::Words::mul_div_op))]
 pub fn multiply(funct3: u32) -> Option<MulDivOp>
     ensures { result ≡ mul_div_op funct3 }

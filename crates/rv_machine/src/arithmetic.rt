@@ -7,6 +7,7 @@ ghost use Rattle.sl_model.specs.Arithmetic as value;
 use sl_model::{Bits, BranchOp, ImmediateOp, LoadOp, MulDivOp, RegisterOp, ShiftOp, StoreOp};
 
 /// The word that imm[11:0] stands for.
+#[inline(always)]
 pub fn immediate_word(imm: Bits<12>) -> u32
     ensures { result ≡ value.immediate_word imm }
 {
@@ -14,6 +15,7 @@ pub fn immediate_word(imm: Bits<12>) -> u32
 }
 
 /// The word that imm[31:12] stands for.
+#[inline(always)]
 pub fn upper_word(imm: Bits<20>) -> u32
     ensures { result ≡ value.upper_word imm }
 {
@@ -21,6 +23,7 @@ pub fn upper_word(imm: Bits<20>) -> u32
 }
 
 /// The word that imm[12:1] stands for, which is half an offset.
+#[inline(always)]
 pub fn branch_word(half_offset: Bits<12>) -> u32
     ensures { result ≡ value.branch_word half_offset }
 {
@@ -28,6 +31,7 @@ pub fn branch_word(half_offset: Bits<12>) -> u32
 }
 
 /// The word that imm[20:1] stands for, which is half an offset.
+#[inline(always)]
 pub fn jump_word(half_offset: Bits<20>) -> u32
     ensures { result ≡ value.jump_word half_offset }
 {
@@ -35,6 +39,7 @@ pub fn jump_word(half_offset: Bits<20>) -> u32
 }
 
 /// A number of some bits, of which the highest is its sign, as a word.
+#[inline(always)]
 fn sign_extend(width: u32, n: u32) -> u32
     requires some_bits { 0 < width }
     requires width { width < 32 }
@@ -50,6 +55,7 @@ fn sign_extend(width: u32, n: u32) -> u32
 }
 
 /// Whether a branch is taken.
+#[inline(always)]
 pub fn is_taken(op: BranchOp, a: u32, b: u32) -> bool
     ensures { result ≡ value.is_taken op a b }
 {
@@ -64,6 +70,7 @@ pub fn is_taken(op: BranchOp, a: u32, b: u32) -> bool
 }
 
 /// The value of an operation of a register and an immediate.
+#[inline(always)]
 pub fn immediate_value(op: ImmediateOp, a: u32, imm: u32) -> u32
     ensures { result ≡ value.immediate_value op a imm }
 {
@@ -78,6 +85,7 @@ pub fn immediate_value(op: ImmediateOp, a: u32, imm: u32) -> u32
 }
 
 /// The value of a shift by a number below 32.
+#[inline(always)]
 pub fn shift_value(op: ShiftOp, a: u32, amount: u32) -> u32
     requires { amount < 32 }
     ensures { result ≡ value.shift_value op a amount }
@@ -90,6 +98,7 @@ pub fn shift_value(op: ShiftOp, a: u32, amount: u32) -> u32
 }
 
 /// The value of an operation of two registers.
+#[inline(always)]
 pub fn register_value(op: RegisterOp, a: u32, b: u32) -> u32
     ensures { result ≡ value.register_value op a b }
 {
@@ -108,6 +117,7 @@ pub fn register_value(op: RegisterOp, a: u32, b: u32) -> u32
 }
 
 /// The value of an operation of the "M" extension.
+#[inline(never)]
 pub fn mul_div_value(op: MulDivOp, a: u32, b: u32) -> u32
     ensures { result ≡ value.mul_div_value op a b }
 {
@@ -144,6 +154,7 @@ fn multiply_high(a: i64, b: i64) -> u32
 }
 
 /// What a load puts into its register, of the number in memory.
+#[inline(always)]
 pub fn load_value(op: LoadOp, n: u32) -> u32
     requires { n < 256 ^ value.load_width op }
     ensures { result ≡ value.load_value op n }
@@ -156,6 +167,7 @@ pub fn load_value(op: LoadOp, n: u32) -> u32
 }
 
 /// How many bytes a load takes.
+#[inline(always)]
 pub fn load_width(op: LoadOp) -> u8
     ensures { result ≡ value.load_width op }
 {
@@ -167,6 +179,7 @@ pub fn load_width(op: LoadOp) -> u8
 }
 
 /// How many bytes a store takes.
+#[inline(always)]
 pub fn store_width(op: StoreOp) -> u8
     ensures { result ≡ value.store_width op }
 {

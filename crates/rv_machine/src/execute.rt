@@ -15,6 +15,7 @@ use sl_model::{
 };
 
 /// The value of a register.
+#[inline(always)]
 pub(crate) fn register(m: &Machine, r: Register) -> u32
     ensures { result ≡ slice_index m.now.x r }
 {
@@ -22,6 +23,7 @@ pub(crate) fn register(m: &Machine, r: Register) -> u32
 }
 
 /// Goes to another place, with one more instruction done.
+#[inline(always)]
 fn go_to(m: &mut Machine, pc: u32)
     requires { m.old.count < 2 ^ 62 }
     ensures { WentTo m.old pc m.old.x m.new }
@@ -31,6 +33,7 @@ fn go_to(m: &mut Machine, pc: u32)
 }
 
 /// Writes a register, but never x0, and goes to another place.
+#[inline(always)]
 fn write_and_go_to(m: &mut Machine, rd: Register, value: u32, pc: u32)
     requires { m.old.count < 2 ^ 62 }
     ensures { WentTo m.old pc (set_register m.old.x rd value) m.new }
@@ -42,6 +45,7 @@ fn write_and_go_to(m: &mut Machine, rd: Register, value: u32, pc: u32)
 }
 
 /// The address of a load, of a store and of JALR.
+#[inline(always)]
 pub(crate) fn address(m: &Machine, rs1: Register, offset: Bits<12>) -> u32
     ensures { result ≡ word_add (slice_index m.now.x rs1) (immediate_word offset) }
 {
@@ -49,6 +53,7 @@ pub(crate) fn address(m: &Machine, rs1: Register, offset: Bits<12>) -> u32
 }
 
 /// Goes to the next place, with a value in a register.
+#[inline(always)]
 fn advance(m: &mut Machine, rd: Register, value: u32) -> Outcome
     requires { m.old.count < 2 ^ 62 }
     ensures went_on { (pages : Pages) → WentOn (next.advance (state_of m.old pages) rd value) m.old pages result m.new pages }
@@ -60,6 +65,7 @@ fn advance(m: &mut Machine, rd: Register, value: u32) -> Outcome
 }
 
 /// Jumps, and leaves the place after the jump in a register.
+#[inline(always)]
 fn jump(m: &mut Machine, rd: Register, target: u32) -> Outcome
     requires { m.old.count < 2 ^ 62 }
     ensures went_on { (pages : Pages) → WentOn (next.jump (state_of m.old pages) rd target) m.old pages result m.new pages }
@@ -74,6 +80,7 @@ fn jump(m: &mut Machine, rd: Register, target: u32) -> Outcome
 }
 
 /// Jumps, as a branch that is taken does.
+#[inline(always)]
 fn branch(m: &mut Machine, target: u32) -> Outcome
     requires { m.old.count < 2 ^ 62 }
     ensures went_on { (pages : Pages) → WentOn (next.branch (state_of m.old pages) target) m.old pages result m.new pages }
@@ -87,6 +94,7 @@ fn branch(m: &mut Machine, target: u32) -> Outcome
 }
 
 /// Goes to the next place.
+#[inline(always)]
 fn pass(m: &mut Machine)
     requires { m.old.count < 2 ^ 62 }
     ensures { WentTo m.old (word_add m.old.pc 4) m.old.x m.new }
@@ -96,6 +104,7 @@ fn pass(m: &mut Machine)
 }
 
 /// Loads into a register.
+#[inline(always)]
 fn load<B: Bus>(m: &mut Machine, bus: &B, op: LoadOp, rd: Register, addr: u32) -> Outcome
     requires { m.old.count < 2 ^ 62 }
     ensures went_on { let pages = B.pages bus.now in WentOn (next.load (state_of m.old pages) op rd addr) m.old pages result m.new pages }
@@ -108,6 +117,7 @@ fn load<B: Bus>(m: &mut Machine, bus: &B, op: LoadOp, rd: Register, addr: u32) -
 }
 
 /// Stores the low bytes of a value.
+#[inline(always)]
 fn store<B: Bus>(m: &mut Machine, bus: &mut B, op: StoreOp, addr: u32, value: u32) -> Outcome
     requires { m.old.count < 2 ^ 62 }
     ensures went_on { WentOn (next.store (state_of m.old (B.pages bus.old)) op addr value) m.old (B.pages bus.old) result m.new (B.pages bus.new) }
@@ -125,6 +135,7 @@ fn store<B: Bus>(m: &mut Machine, bus: &mut B, op: StoreOp, addr: u32, value: u3
 }
 
 /// Does one instruction.
+#[inline(always)]
 #[tactic(auto, unfolding(sl_model::specs::Step::execute))]
 pub fn execute<B: Bus>(m: &mut Machine, bus: &mut B, instr: Instr) -> Outcome
     requires { m.old.count < 2 ^ 62 }

@@ -13,6 +13,7 @@ use sl_model::{Bus, FETCH, ILLEGAL, MISALIGNED, RunState};
 use std::sync::ledger::Ledger;
 
 /// Does the instruction at pc, without a count.
+#[inline(always)]
 #[tactic(auto, unfolding(sl_model::specs::Step::step))]
 fn do_next<B: Bus>(m: &mut Machine, bus: &mut B) -> Outcome
     requires running { m.old.status ≡ RunState.Running }
@@ -38,6 +39,7 @@ fn do_next<B: Bus>(m: &mut Machine, bus: &mut B) -> Outcome
 /// Does the instruction at pc.
 ///
 /// `Stepped` counts one step. After `Call`, which is an ECALL, and after `Trap` nothing has changed.
+#[inline(always)]
 pub fn step<B: Bus, L: Ledger>(m: &mut Machine, bus: &mut B, steps: &mut Steps<L>) -> Outcome
     requires running { m.old.status ≡ RunState.Running }
     requires count { m.old.count < 2 ^ 62 }

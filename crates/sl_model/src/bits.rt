@@ -22,6 +22,7 @@ impl<const N: u32> Model for Bits<N> {
 
 impl<const N: u32> Bits<N> {
     /// The low `N` bits of a word.
+    #[inline(always)]
     pub fn low(word: u32) -> Self
         requires { N < 32 }
         ensures { result ≡ word % 2 ^ N }
@@ -32,6 +33,7 @@ impl<const N: u32> Bits<N> {
     }
 
     /// The number itself.
+    #[inline(always)]
     pub fn value(self) -> u32
         ensures value { result ≡ self.entry }
         ensures fits { result < 2 ^ N }
