@@ -14,20 +14,20 @@ use tracer_lang::{Record, TracerEnd};
 /// Register a0.
 const A0: usize = 10;
 
-/// Records what the tracers of a plan leave: register a0, where pc is at the address.
-pub fn fire(
+/// Records register a0. Few instructions are traced, so this stays out of the loop that runs them.
+#[cold]
+#[inline(never)]
+fn fire_here(
     alloc: Global,
     plan: &Plan,
     worker: &Worker,
     records: &mut Vec<Record>,
 ) -> Result<(), AllocError>
+    requires { worker.now.m.pc ≡ plan.now.address }
     ensures { let left = tracers_of plan.now (state_in worker.now) in
         OnOk result (records.new.items ≡ records.old.items ++ left) }
 {
     let m = &worker.m;
-    if m.pc != plan.address {
-        return Ok(());
-    }
     let mut words = Seq::new(alloc);
     words.push(m.x[A0])?;
     records.push(Record {
@@ -37,6 +37,23 @@ pub fn fire(
         words,
         outcome: TracerEnd::Done,
     })?;
+    Ok(())
+}
+
+/// Records what the tracers of a plan leave: register a0, where pc is at the address.
+#[inline(always)]
+pub fn fire(
+    alloc: Global,
+    plan: &Plan,
+    worker: &Worker,
+    records: &mut Vec<Record>,
+) -> Result<(), AllocError>
+    ensures { let left = tracers_of plan.now (state_in worker.now) in
+        OnOk result (records.new.items ≡ records.old.items ++ left) }
+{
+    if worker.m.pc == plan.address {
+        return fire_here(alloc, plan, worker, records);
+    }
     Ok(())
 }
 

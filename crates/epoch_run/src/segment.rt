@@ -33,6 +33,7 @@ fn stopped_at(count: u64, stop: Refused<BreakKind>) -> Refused<Break>
 /// # Errors
 ///
 /// The break of the instruction that does not go on, or want of memory.
+#[inline(never)]
 fn run_to<L: Ledger>(
     alloc: Global,
     plan: &Plan,

@@ -50,6 +50,7 @@ fn early_end(rec: &Recording) -> BreakKind
 }
 
 /// Does the next instruction of a program that runs.
+#[inline(always)]
 fn run_one<L: Ledger>(
     rec: &Recording,
     m: &mut Machine,
@@ -84,6 +85,7 @@ fn run_one<L: Ledger>(
 ///
 /// Why the replay diverges there: nothing has changed then, and no step was counted. Or want of memory, after which
 /// machine and memory are given up.
+#[inline(always)]
 pub fn advance_one<L: Ledger>(
     rec: &Recording,
     m: &mut Machine,
