@@ -2,7 +2,7 @@
 #![tactic(auto)]
 
 use sl_base::{FileStore, NoGate, StdSink, StdWorld};
-use sledge_top::{Status, sledge, write_fault};
+use sledge_top::{Refusal, Status, sledge, write_fault};
 use std::env;
 use std::io::ErrorKind;
 use std::process::ExitCode;
@@ -16,7 +16,7 @@ fn words(rt: &HostRuntime) -> Result<Vec<String>, Status> {
             return Err(if error.kind() == ErrorKind::OutOfMemory {
                 Status::Memory
             } else {
-                Status::Usage
+                Status::Refused(Refusal::Usage)
             });
         }
     };

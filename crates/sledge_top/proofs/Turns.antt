@@ -11,7 +11,7 @@ use Rattle.epoch_core.specs.declared.post.PostValue.{PostValue}
 use Rattle.epoch_core.specs.declared.post.PostValue.TheVariants.{Skipped}
 use Rattle.epoch_core.specs.Posts.{post_of}
 use Rattle.epoch_core.specs.Schedule.{CoreState, start, claim, finish, finished, leave, posted, low_after, after, run_events, HoldsNone}
-use Rattle.sledge_top.specs.Epochs.{turns, one_after_the_other}
+use Rattle.sledge_top.specs.Runs.{turns, one_after_the_other}
 
 -- one more turn
 pub turns_more : (n : ℕ) → turns (suc n) ≡ turns n ++ Claim 0 ∷ Finish 0 ∷ []

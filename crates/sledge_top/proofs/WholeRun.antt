@@ -1,83 +1,92 @@
 -- All epochs together are the one run.
 use Rattle.std.specs.Prelude.{slice_get}
-use Rattle.std.proofs.Common.{◌≡◌, ◌≢◌, ◌⊎◌, ⊎_elim, ◌↔◌, ℕ, zero, suc, ◌+◌, ◌<◌, List, ◌++◌, length, map, Option, Some, None, Ok, Err, inl, inr, refl, sym, ap, ◌∙◌, arith}
+use Rattle.std.proofs.Common.{◌≡◌, ◌≢◌, ◌⊎◌, ⊎_elim, ◌↔◌, ℕ, zero, suc, ◌+◌, ◌<◌, List, ◌++◌, length, map, Option, Some, None, Result, Ok, Err, inl, inr, refl, sym, ap, ◌∙◌, arith}
 use Rattle.std.specs.List.{flat_map, range_with_len}
 use Rattle.std.proofs.lemmas.List.Concat.{flat_map-cons}
 use Rattle.std.proofs.lemmas.List.FromFn.{length-range_with_len, get_or-range_with_len, length-map-range_with_len}
 use Rattle.std.proofs.lemmas.Bool.{cases_eq}
 use Rattle.std.proofs.lemmas.Option.{slice_get-map, slice_get-get_or, slice_get_within}
 use Rattle.std.specs.Option.{option_map}
-use Rattle.sl_model.specs.State.{State}
 use Rattle.call_log.specs.declared.breaks.Break.{Break}
-use Rattle.rec_format.specs.declared.recording.Recording.{Recording}
 use Rattle.tracer_lang.specs.declared.record.Record.{Record}
 use Rattle.epoch_core.specs.declared.post.PostValue.{PostValue}
 use Rattle.epoch_core.specs.declared.post.PostValue.TheVariants as post
-use Rattle.epoch_run.specs.Records.{Tracers, records}
-use Rattle.epoch_run.specs.Epochs.{value_of}
-use Rattle.epoch_run.specs.Segments.{posted}
-use Rattle.epoch_run.specs.EpochLaws.{epochs_of, break_of, records_of, NoneBreaks, LeastBreakIsFirst, BreaksWithTheRun, RecordsOfTheRun}
-use Rattle.epoch_run.specs.Plans.{value_at, values_of}
+use Rattle.epoch_run.specs.declared.plan.Plan.{Plan}
+use Rattle.epoch_run.specs.EpochLaws.{epochs_of, FirstBrokeIsFirst, AllRanAreTheRun}
+use Rattle.epoch_run.specs.Plans.{tracers_of, value_in, values_of, posted}
+use Rattle.epoch_run.specs.Records.{records}
+use Rattle.replay.specs.Breaks.{first_break}
+use Rattle.checkpoints.specs.RecordedRun.{opened_of}
 use Rattle.ordered_merge.specs.Merged.{merged, records_in, BreaksFirstAt, NoneBroke}
-use Rattle.sledge_top.specs.Epochs.{run_of, run_value}
+use Rattle.sledge_top.specs.Runs.{run_value, run_in}
 
--- ---- the value of one epoch
+-- what an epoch comes to
+abbrev Value : Type 0
+Value = Result (List Record) Break
 
-value_is : (rec : Recording) (opened : State) (tracers : Tracers) (places : List ℕ) (k : ℕ) (break : Option Break) → break_of rec opened places k ≡ break → value_at rec opened tracers places k ≡ posted (value_of (records_of rec opened tracers places k) break)
-unfolding value_at
-value_is rec opened tracers places k break is = ap (λ b. posted (value_of (records_of rec opened tracers places k) b)) is
+-- the posts of the first n epochs
+abbrev posts : (ℕ → Value) → ℕ → List PostValue
+posts value n = map (λ k. posted (value k)) (range_with_len 0 n)
 
-got : (rec : Recording) (opened : State) (tracers : Tracers) (places : List ℕ) (k : ℕ) → k < epochs_of places → slice_get (values_of rec opened tracers places) k ≡ Some (value_at rec opened tracers places k)
-got rec opened tracers places k lt =
-    let numbers = range_with_len 0 (epochs_of places) in
-    let at_zero : 0 + k ≡ k = omega arith in
-    let number : slice_get numbers k ≡ Some k = slice_get-get_or numbers k 0 (omega (arith, length-range_with_len 0 (epochs_of places))) ∙ ap Some (get_or-range_with_len 0 (epochs_of places) k 0 lt ∙ at_zero) in
-    slice_get-map (value_at rec opened tracers places) numbers k ∙ ap (option_map (value_at rec opened tracers places)) number
+-- what an epoch leaves
+abbrev left : (ℕ → Value) → ℕ → List Record
+left value k = records_in (posted (value k))
 
-got_ran : (rec : Recording) (opened : State) (tracers : Tracers) (places : List ℕ) (k : ℕ) → k < epochs_of places → break_of rec opened places k ≡ None → (first : Break) → slice_get (values_of rec opened tracers places) k ≢ Some (post.Broke first)
-got_ran rec opened tracers places k lt none first is =
-    let ran : Some (post.Ran (records_of rec opened tracers places k)) ≡ Some (post.Broke first) = ap Some (sym (value_is rec opened tracers places k None none)) ∙ sym (got rec opened tracers places k lt) ∙ is in
-    absurd cc
+-- each of the first n epochs ran
+abbrev Ran : (ℕ → Value) → (ℕ → List Record) → ℕ → Type 0
+Ran value all n = (k : ℕ) → k < n → value k ≡ Ok (all k)
 
--- ---- the least epoch with a break, if there is one
-
-pub record Breaks (rec : Recording) (opened : State) (places : List ℕ) (n : ℕ) : Type 0 where
+-- or one of them is the first that broke
+pub record Breaks (value : ℕ → Value) (n : ℕ) : Type 0 where
   pub k : ℕ
   pub first : Break
   pub below : k < n
-  pub before : NoneBreaks rec opened places k
-  pub here : break_of rec opened places k ≡ Some first
+  pub before : Ran value (left value) k
+  pub here : value k ≡ Err first
 
-none_more : (rec : Recording) (opened : State) (places : List ℕ) (n : ℕ) → break_of rec opened places n ≡ None → NoneBreaks rec opened places n → NoneBreaks rec opened places (suc n)
-none_more rec opened places n is none k lt =
-    ⊎_elim (λ (same : k ≡ n). ap (break_of rec opened places) same ∙ is) (λ (apart : k ≡ n → ⊥). none k (omega arith)) (cases_eq k n)
+-- ---- the first that broke, if there is one
 
-more : (rec : Recording) (opened : State) (places : List ℕ) (n : ℕ) (break : Option Break) → break_of rec opened places n ≡ break → NoneBreaks rec opened places n → NoneBreaks rec opened places (suc n) ⊎ Breaks rec opened places (suc n)
-more rec opened places n None is none = inl (none_more rec opened places n is none)
-more rec opened places n (Some first) is none = inr (record { k = n; first = first; below = omega arith; before = none; here = is })
+ran_more : (value : ℕ → Value) (n : ℕ) (all : List Record) → value n ≡ Ok all → Ran value (left value) n → Ran value (left value) (suc n)
+ran_more value n all is ran k lt =
+    ⊎_elim (λ (same : k ≡ n). let here : value k ≡ Ok all = ap value same ∙ is in here ∙ ap Ok (sym (ap (λ v. records_in (posted v)) here))) (λ (apart : k ≡ n → ⊥). ran k (omega arith)) (cases_eq k n)
 
-further : (rec : Recording) (opened : State) (places : List ℕ) (n : ℕ) → Breaks rec opened places n → Breaks rec opened places (suc n)
-further rec opened places n b = record { k = b.k; first = b.first; below = omega (arith, b.below); before = b.before; here = b.here }
+more : (value : ℕ → Value) (n : ℕ) (here : Value) → value n ≡ here → Ran value (left value) n → Ran value (left value) (suc n) ⊎ Breaks value (suc n)
+more value n (Ok all) is ran = inl (ran_more value n all is ran)
+more value n (Err first) is ran = inr (record { k = n; first = first; below = omega arith; before = ran; here = is })
 
-least : (rec : Recording) (opened : State) (places : List ℕ) (n : ℕ) → NoneBreaks rec opened places n ⊎ Breaks rec opened places n
-least rec opened places zero = inl (λ k lt. absurd (omega (arith, lt)))
-least rec opened places (suc n) =
-    ⊎_elim (λ (none : NoneBreaks rec opened places n). more rec opened places n (break_of rec opened places n) refl none) (λ (b : Breaks rec opened places n). inr (further rec opened places n b)) (least rec opened places n)
+further : (value : ℕ → Value) (n : ℕ) → Breaks value n → Breaks value (suc n)
+further value n b = record { k = b.k; first = b.first; below = omega (arith, b.below); before = b.before; here = b.here }
 
--- ---- the records of all epochs
+least : (value : ℕ → Value) (n : ℕ) → Ran value (left value) n ⊎ Breaks value n
+least value zero = inl (λ k lt. absurd (omega (arith, lt)))
+least value (suc n) =
+    ⊎_elim (λ (ran : Ran value (left value) n). more value n (value n) refl ran) (λ (b : Breaks value n). inr (further value n b)) (least value n)
 
-left_by : (rec : Recording) (opened : State) (tracers : Tracers) (places : List ℕ) (k : ℕ) → break_of rec opened places k ≡ None → records_in (value_at rec opened tracers places k) ≡ records_of rec opened tracers places k
-left_by rec opened tracers places k none = ap records_in (value_is rec opened tracers places k None none)
+-- ---- the posts
 
-all_left : (rec : Recording) (opened : State) (tracers : Tracers) (places : List ℕ) (n a : ℕ) → ((k : ℕ) → k < a + n → break_of rec opened places k ≡ None)
-    → flat_map records_in (map (value_at rec opened tracers places) (range_with_len a n)) ≡ flat_map (records_of rec opened tracers places) (range_with_len a n)
-all_left rec opened tracers places zero a none = refl
-all_left rec opened tracers places (suc n) a none =
-    let value = value_at rec opened tracers places in
-    let left = records_of rec opened tracers places in
+got : (value : ℕ → Value) (n k : ℕ) → k < n → slice_get (posts value n) k ≡ Some (posted (value k))
+got value n k lt =
+    let numbers = range_with_len 0 n in
+    let at_zero : 0 + k ≡ k = omega arith in
+    let number : slice_get numbers k ≡ Some k = slice_get-get_or numbers k 0 (omega (arith, length-range_with_len 0 n)) ∙ ap Some (get_or-range_with_len 0 n k 0 lt ∙ at_zero) in
+    slice_get-map (λ (i : ℕ). posted (value i)) numbers k ∙ ap (option_map (λ (i : ℕ). posted (value i))) number
+
+no_break : (value : ℕ → Value) (n k : ℕ) (all : List Record) (first : Break) → k < n → value k ≡ Ok all → slice_get (posts value n) k ≢ Some (post.Broke first)
+no_break value n k all first lt ran is =
+    let both : Some (post.Ran all) ≡ Some (post.Broke first) = ap (λ (v : Value). Some (posted v)) (sym ran) ∙ sym (got value n k lt) ∙ is in
+    absurd cc
+
+none_broke : (value : ℕ → Value) (n : ℕ) → Ran value (left value) n → NoneBroke (posts value n)
+none_broke value n ran k first is =
+    let long : length (posts value n) ≡ n = length-map-range_with_len (λ (i : ℕ). posted (value i)) 0 n in
+    let lt : k < n = omega (arith, slice_get_within (posts value n) k (post.Broke first) is, long) in
+    no_break value n k (left value k) first lt (ran k lt) is
+
+all_left : (value : ℕ → Value) (a n : ℕ) → flat_map records_in (map (λ k. posted (value k)) (range_with_len a n)) ≡ flat_map (left value) (range_with_len a n)
+all_left value a zero = refl
+all_left value a (suc n) =
     let rest = range_with_len (a + 1) n in
-    flat_map-cons records_in (value a) (map value rest) ∙ ap (λ (r : List Record). r ++ flat_map records_in (map value rest)) (left_by rec opened tracers places a (none a (omega arith)))
-    ∙ ap (λ (r : List Record). left a ++ r) (all_left rec opened tracers places n (a + 1) (λ k lt. none k (omega (arith, lt)))) ∙ sym (flat_map-cons left a rest)
+    flat_map-cons records_in (posted (value a)) (map (λ k. posted (value k)) rest) ∙ ap (λ (r : List Record). left value a ++ r) (all_left value (a + 1) n) ∙ sym (flat_map-cons (left value) a rest)
 
 -- ---- the whole
 
@@ -85,24 +94,29 @@ abbrev pub MergesBroken : Type 0
 MergesBroken = (values : List PostValue) (first : Break) → (merged values ≡ Err first) ↔ ((k : ℕ) × BreaksFirstAt values k first)
 
 abbrev pub MergesRun : Type 0
-MergesRun = (values : List PostValue) (left : List Record) → (merged values ≡ Ok left) ↔ (NoneBroke values × (left ≡ flat_map records_in values))
+MergesRun = (values : List PostValue) (all : List Record) → (merged values ≡ Ok all) ↔ (NoneBroke values × (all ≡ flat_map records_in values))
 
-below_all : (rec : Recording) (opened : State) (tracers : Tracers) (places : List ℕ) → NoneBreaks rec opened places (epochs_of places) → NoneBroke (values_of rec opened tracers places)
-below_all rec opened tracers places none k first is =
-    let long : length (values_of rec opened tracers places) ≡ epochs_of places = length-map-range_with_len (value_at rec opened tracers places) 0 (epochs_of places) in
-    let lt : k < epochs_of places = omega (arith, slice_get_within (values_of rec opened tracers places) k (post.Broke first) is, long) in
-    got_ran rec opened tracers places k lt (none k lt) first is
-
-pub merged_is_run : (rec : Recording) (opened : State) (tracers : Tracers) (places : List ℕ) → MergesBroken → MergesRun → LeastBreakIsFirst rec opened places → BreaksWithTheRun rec opened places → RecordsOfTheRun rec opened tracers places
-    → merged (values_of rec opened tracers places) ≡ run_of rec tracers opened
-merged_is_run rec opened tracers places merges-broken merges-run least-is-first with-run of-run =
-    let values = values_of rec opened tracers places in
+whole : (value : ℕ → Value) (n : ℕ) (break : Option Break) (all : List Record) → MergesBroken → MergesRun
+    → ((each : ℕ → List Record) (k : ℕ) (first : Break) → k < n → Ran value each k → value k ≡ Err first → break ≡ Some first)
+    → ((each : ℕ → List Record) → Ran value each n → (break ≡ None) × (flat_map each (range_with_len 0 n) ≡ all)) → merged (posts value n) ≡ run_value break all
+whole value n break all merges-broken merges-run broke ran =
     ⊎_elim
-    (λ (none : NoneBreaks rec opened places (epochs_of places)).
-    (merges-run values (flat_map records_in values)).1 (below_all rec opened tracers places none, refl) ∙ ap Ok (all_left rec opened tracers places (epochs_of places) 0 (λ k lt. none k (omega (arith, lt))) ∙ of-run none)
-    ∙ ap (λ break. run_value break (records rec tracers opened)) (sym (with-run.0 none)))
-    (λ (b : Breaks rec opened places (epochs_of places)).
-    let broke : slice_get values b.k ≡ Some (post.Broke b.first) = got rec opened tracers places b.k b.below ∙ ap Some (value_is rec opened tracers places b.k (Some b.first) b.here) in
-    (merges-broken values b.first).1 (b.k, record { broke = broke; least = λ j earlier lt. got_ran rec opened tracers places j (omega (arith, lt, b.below)) (b.before j lt) earlier })
-    ∙ ap (λ break. run_value break (records rec tracers opened)) (sym (least-is-first b.k b.first b.below b.before b.here)))
-    (least rec opened places (epochs_of places))
+    (λ (each : Ran value (left value) n).
+    let both = ran (left value) each in
+    (merges-run (posts value n) (flat_map records_in (posts value n))).1 (none_broke value n each, refl)
+    ∙ ap Ok (all_left value 0 n ∙ both.1) ∙ ap (λ (b : Option Break). run_value b all) (sym both.0))
+    (λ (b : Breaks value n).
+    let here : slice_get (posts value n) b.k ≡ Some (post.Broke b.first) = got value n b.k b.below ∙ ap (λ (v : Value). Some (posted v)) b.here in
+    (merges-broken (posts value n) b.first).1
+    (b.k, record { broke = here; least = λ j earlier lt. no_break value n j (left value j) earlier (omega (arith, lt, b.below)) (b.before j lt) })
+    ∙ ap (λ (break : Option Break). run_value break all) (sym (broke (left value) b.k b.first b.below b.before b.here)))
+    (least value n)
+
+-- what the epochs of a plan come to, merged, is what its one run comes to
+pub merged_is_run : (plan : Plan) → MergesBroken → MergesRun → FirstBrokeIsFirst plan.checkpoints.rec (opened_of plan.checkpoints) (tracers_of plan) plan.cutting
+    → AllRanAreTheRun plan.checkpoints.rec (opened_of plan.checkpoints) (tracers_of plan) plan.cutting → merged (values_of plan) ≡ run_in plan
+unfolding value_in
+merged_is_run plan merges-broken merges-run broke ran =
+    let rec = plan.checkpoints.rec in
+    let opened = opened_of plan.checkpoints in
+    whole (value_in plan) (epochs_of plan.cutting) (first_break rec opened) (records rec (tracers_of plan) opened) merges-broken merges-run broke ran

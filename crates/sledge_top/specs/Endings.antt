@@ -1,7 +1,55 @@
--- What a report says of the recorded end.
-use Rattle.std.specs.Prelude.{◌∷◌}
-use Rattle.rec_format.specs.declared.recording.Recording.{Recording}
-use Rattle.sledge_top.specs.declared.trace.Ending.{Ending}
+-- How a command ends, what it says and what it leaves, by what its words and the files come to.
+use Rattle.std.specs.Prelude.{◌≡◌, ℕ, List, Option, Some, None, Result, Err, IsOk, IsSomeAnd, ⊤}
+use Rattle.sl_base.specs.Files.{Files, SameButAt}
+use Rattle.sl_base.specs.Written.{Adds, AddsPrefix}
+use Rattle.sl_base.specs.declared.refused.Refused.{Refused}
+use Rattle.sl_base.specs.declared.refused.Refused.TheVariants as refused
+use Rattle.report.specs.declared.status.Refusal.{Refusal}
+use Rattle.report.specs.declared.status.Refusal.TheVariants as refusal
+use Rattle.report.specs.declared.status.Status.{Status}
+use Rattle.report.specs.declared.status.Status.TheVariants as status
+use Rattle.sledge_top.specs.Done.{Put, Done, put_of, with_put}
 
-abbrev pub ending_of : Recording → Ending
-ending_of rec = record { end = rec.end; count = rec.last.count; pc = rec.last.pc; x = 0 ∷ rec.last.x }
+-- A command ends as it comes to. Memory may be wanting at any place, and the store may fail; the
+-- first output can only fail where there is a text.
+abbrev pub Ends : Status → Result Done Refusal → Type 0
+Ends status.Ok defined = IsOk defined
+Ends (status.Refused why) defined = defined ≡ Err why
+Ends status.StoreFault defined = ⊤
+Ends status.SinkFault defined = IsOk defined
+Ends status.Memory defined = ⊤
+
+-- what the first output gains: the whole text, after a fault of it some of the text from the first
+-- byte on, and else nothing
+abbrev pub Says : Status → Option (List ℕ) → Option (List ℕ) → List ℕ → Type 0
+Says status.Ok old new text = Adds old new text
+Says status.SinkFault old new text = AddsPrefix old new text
+Says other old new text = new ≡ old
+
+-- after each ending but these two the first output has gained nothing
+abbrev pub IsSilent : Status → Type 0
+IsSilent status.Ok = ⊥
+IsSilent status.SinkFault = ⊥
+IsSilent other = ⊤
+
+-- after a fault of the store, the file that was to be put may have any bytes or none
+abbrev pub KeepsOthers : Option Put → Files → Option Files → Type 0
+KeepsOthers None files new = new ≡ Some files
+KeepsOthers (Some put) files new = IsSomeAnd new (SameButAt put.name files)
+
+-- the files afterwards: with the one that is put, also where the text could not be written behind
+-- it; and else as they were
+abbrev pub Leaves : Status → Files → Option Files → Result Done Refusal → Type 0
+Leaves status.Ok files new defined = new ≡ Some (with_put files (put_of defined))
+Leaves status.SinkFault files new defined = new ≡ Some (with_put files (put_of defined))
+Leaves status.StoreFault files new defined = KeepsOthers (put_of defined) files new
+Leaves other files new defined = new ≡ Some files
+
+-- a refusal for another reason than the words
+abbrev pub IsLater : Refusal → Type 0
+IsLater refusal.Usage = ⊥
+IsLater other = ⊤
+
+abbrev pub IsLaterFault : Refused Refusal → Type 0
+IsLaterFault (refused.Fault why) = IsLater why
+IsLaterFault refused.Memory = ⊤

@@ -1,9 +1,5 @@
-pub mod Status
-pub mod Pieces
-pub mod Words
-pub mod Orders
+pub mod Done
+pub mod Runs
 pub mod Answer
-pub mod Report
-pub mod Built
-pub mod Epochs
 pub mod Endings
+pub mod Views

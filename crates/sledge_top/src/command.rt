@@ -1,70 +1,97 @@
 //! The commands.
 
-ghost use Rattle.std.specs.Prelude.{◌≡◌, ◌≤◌, ◌⊎◌, List, ℕ, IfErr, IfSome, Some, None, IsErrOf, map, string_bytes};
+ghost use Rattle.std.specs.Prelude.{◌≡◌, ◌≤◌, ◌⊎◌, List, ℕ, IfErr, IfSome, Some, None, IsErrOf, false};
 ghost use Rattle.sl_base.specs.Faults.{Rose};
 ghost use Rattle.sl_base.specs.Written.{Adds, AddsPrefix};
-ghost use Rattle.sledge_top.specs.Status.{fault_line, IsRefusal, IsLaterRefusal};
-ghost use Rattle.sledge_top.specs.Words.{read_words};
-ghost use Rattle.sledge_top.specs.Orders.{order_of, texts, HasEpochs};
-ghost use Rattle.sledge_top.specs.Answer.{Gives, Ends, text, text_of, outcome, SameAnswer};
+ghost use Rattle.report.specs.Status.{fault_line};
+ghost use Rattle.cli_words.specs.Orders.{Fits};
+ghost use Rattle.cli_words.specs.Views.{texts, words_view, trace_view, order_view};
+ghost use Rattle.sledge_top.specs.Done.{text_of};
+ghost use Rattle.sledge_top.specs.Answer.{is_all, is_plain_trace, where_built, named_by, ordered, outcome, asks_world, SameAnswer};
+ghost use Rattle.sledge_top.specs.Endings.{Ends, Says, IsSilent, Leaves};
+ghost use Rattle.sledge_top.specs.Views.{done_view, Comes};
 
-use crate::fault_line::write_fault;
-use crate::status::Status;
-use crate::store::file_of;
-use crate::trace::{recording_of, trace_at};
-use crate::words::{Order, read_words};
-use sl_base::{Gate, Sink, Store, World, write_all};
+use crate::done::{Done, finish};
+use crate::failure::Failure;
+use crate::trace::trace_at;
+use cli_words::{Order, TraceOptions, read_words};
+use report::{Refusal, Status, write_fault};
+use sl_base::{Gate, Refused, Sink, Store, World};
 use std::alloc::Global;
 use std::thread::Threads;
 
-/// The most bytes of a recording.
-const RECORDING_LIMIT: u64 = 268_435_456;
+/// Whether the analysis `all` is the only one.
+fn is_all(kinds: &[&str]) -> bool
+    ensures { result ≡ is_all (words_view kinds.now) }
+{
+    match kinds {
+        [kind] => *kind == "all",
+        _ => false,
+    }
+}
 
-/// The text that a command writes to the first output, or how it is refused.
-#[tactic(auto, unfolding(crate::specs::Answer::text_of))]
-fn text_of<S: Store>(alloc: Global, order: Order<'_>, store: &mut S) -> Result<Vec<u8>, Status>
-    requires { HasEpochs order }
-    ensures text { IfSome (S.told store.old) (λ files. Gives (λ text. text.items) result (text_of files (order_of order.entry))) }
-    ensures failed { IsErrOf result Status.StoreFault → Rose (S.faults store.old) (S.faults store.new) }
-    ensures refusal { IfErr result IsLaterRefusal }
+/// Whether a trace has one worker and the analysis `all` alone.
+fn is_plain_trace(options: &TraceOptions<'_>) -> bool
+    ensures { result ≡ is_plain_trace (trace_view options.now) }
+{
+    options.workers == 1 && is_all(&options.analyses)
+}
+
+/// Does a command but for its file and its text. Words of commands that are not built yet name none.
+fn done_by<'a, S: Store>(
+    alloc: Global,
+    order: &Order<'a>,
+    store: &mut S,
+) -> Result<Done<'a>, Failure>
+    requires { Fits (order_view order.now) }
+    ensures answer { IfSome (S.told store.old) (λ files.
+        Comes done_view result (ordered files (where_built (order_view order.now)))) }
+    ensures usage { IsErrOf result (Failure.Refused Refusal.Usage)
+        → where_built (order_view order.now) ≡ None }
+    ensures usage_always { where_built (order_view order.now) ≡ None
+        → IsErrOf result (Failure.Refused Refusal.Usage) }
+    ensures failed { IsErrOf result Failure.StoreFault
+        → Rose (S.faults store.old) (S.faults store.new) }
+    ensures faults { S.faults store.old ≤ S.faults store.new }
     ensures same { S.told store.new ≡ S.told store.old }
 {
     match order {
         Order::TraceAt {
             recording,
             address,
-            epochs,
-        } => {
-            let bytes = file_of(alloc, store, recording, RECORDING_LIMIT)?;
-            let rec = recording_of(alloc, &bytes)?;
-            trace_at(alloc, rec, address, epochs)
-        }
+            options,
+        } if is_plain_trace(options) => trace_at(alloc, recording, *address, options.epochs, store),
+        _ => Err(Failure::Refused(Refusal::Usage)),
     }
 }
 
 /// Does a command but for the line of the second output.
 fn run<S: Store, O: Sink>(alloc: Global, words: &[String], store: &mut S, out: &mut O) -> Status
-    ensures usage { result ≡ Status.Usage → read_words (texts words.now) ≡ None }
-    ensures usage_always { read_words (texts words.now) ≡ None → result ≡ Status.Usage }
-    ensures ending { IfSome (S.told store.old) (λ files. Ends result (outcome (texts words.now) files)) }
-    ensures store_fault { result ≡ Status.StoreFault → Rose (S.faults store.old) (S.faults store.new) }
+    ensures usage { result ≡ Status.Refused Refusal.Usage → named_by (texts words.now) ≡ None }
+    ensures usage_always { named_by (texts words.now) ≡ None
+        → (result ≡ Status.Refused Refusal.Usage) ⊎ (result ≡ Status.Memory) }
+    ensures ending { IfSome (S.told store.old) (λ files.
+        Ends result (outcome (texts words.now) files)) }
+    ensures store_fault { result ≡ Status.StoreFault
+        → Rose (S.faults store.old) (S.faults store.new) }
     ensures sink_fault { result ≡ Status.SinkFault → Rose (O.faults out.old) (O.faults out.new) }
-    ensures ok { result ≡ Status.Ok → IfSome (S.told store.old) (λ files.
-        Adds (O.written out.old) (O.written out.new) (text (outcome (texts words.now) files))) }
-    ensures cut { result ≡ Status.SinkFault → IfSome (S.told store.old) (λ files.
-        AddsPrefix (O.written out.old) (O.written out.new) (text (outcome (texts words.now) files))) }
-    ensures refused { IsRefusal result → O.written out.new ≡ O.written out.old }
-    ensures files { S.told store.new ≡ S.told store.old }
+    ensures output { IfSome (S.told store.old) (λ files.
+        Says result (O.written out.old) (O.written out.new)
+        (text_of (outcome (texts words.now) files))) }
+    ensures silent { IsSilent result → O.written out.new ≡ O.written out.old }
+    ensures files { IfSome (S.told store.old) (λ files.
+        Leaves result files (S.told store.new) (outcome (texts words.now) files)) }
 {
-    let Some(order) = read_words(words) else {
-        return Status::Usage;
+    let order = match read_words(alloc, words) {
+        Ok(order) => order,
+        Err(Refused::Fault(_)) => return Status::Refused(Refusal::Usage),
+        Err(Refused::Memory) => return Status::Memory,
     };
-    match text_of(alloc, order, store) {
-        Ok(text) => match write_all(out, &text) {
-            Ok(()) => Status::Ok,
-            Err(_) => Status::SinkFault,
-        },
-        Err(status) => status,
+    match done_by(alloc, &order, store) {
+        Ok(done) => finish(alloc, &done, store, out),
+        Err(Failure::Refused(why)) => Status::Refused(why),
+        Err(Failure::StoreFault) => Status::StoreFault,
+        Err(Failure::Memory) => Status::Memory,
     }
 }
 
@@ -82,32 +109,42 @@ pub fn sledge<R: Threads + Sync, S: Store, W: World, O: Sink, E: Sink, G: Gate>(
     err: &mut E,
     _gate: &G,
 ) -> Status
-    // `Usage` comes exactly where the words name no command, but for want of memory.
-    ensures usage { result ≡ Status.Usage → read_words (texts words.now) ≡ None }
-    ensures usage_always { read_words (texts words.now) ≡ None → (result ≡ Status.Usage) ⊎ (result ≡ Status.Memory) }
+    // A refusal for the words comes exactly where they name no command, but for want of memory.
+    ensures usage { result ≡ Status.Refused Refusal.Usage → named_by (texts words.now) ≡ None }
+    ensures usage_always { named_by (texts words.now) ≡ None
+        → (result ≡ Status.Refused Refusal.Usage) ⊎ (result ≡ Status.Memory) }
 
-    // Where the store tells its files, the ending is that of the definition, or memory was wanting or the outside failed.
-    ensures ending { IfSome (S.told store.old) (λ files. Ends result (outcome (texts words.now) files)) }
+    // Where the store tells its files, the command ends as the words and the files come to; memory
+    // alone may be wanting for no reason.
+    ensures ending { IfSome (S.told store.old) (λ files.
+        Ends result (outcome (texts words.now) files)) }
 
     // A fault of the store or of the first output comes only where its count of faults rose.
-    ensures store_fault { result ≡ Status.StoreFault → Rose (S.faults store.old) (S.faults store.new) }
+    ensures store_fault { result ≡ Status.StoreFault
+        → Rose (S.faults store.old) (S.faults store.new) }
     ensures sink_fault { result ≡ Status.SinkFault → Rose (O.faults out.old) (O.faults out.new) }
 
-    // The first output gains the whole text of the definition, after a fault of it some of this text from the first
-    // byte on, and after a refusal nothing.
-    ensures ok { result ≡ Status.Ok → IfSome (S.told store.old) (λ files.
-        Adds (O.written out.old) (O.written out.new) (text (outcome (texts words.now) files))) }
-    ensures cut { result ≡ Status.SinkFault → IfSome (S.told store.old) (λ files.
-        AddsPrefix (O.written out.old) (O.written out.new) (text (outcome (texts words.now) files))) }
-    ensures refused { IsRefusal result → O.written out.new ≡ O.written out.old }
+    // The first output gains the whole text, after a fault of it some of the text from the first
+    // byte on, and after every other ending nothing, whatever the store tells.
+    ensures output { IfSome (S.told store.old) (λ files.
+        Says result (O.written out.old) (O.written out.new)
+        (text_of (outcome (texts words.now) files))) }
+    ensures silent { IsSilent result → O.written out.new ≡ O.written out.old }
 
-    // The second output gains the ending's whole line, or where its count of faults rose some of it.
+    // The second output gains the whole line of the ending, or where its count of faults rose some,
+    // from the first byte on.
     ensures line { Adds (E.written err.old) (E.written err.new) (fault_line result)
-        ⊎ (Rose (E.faults err.old) (E.faults err.new) × AddsPrefix (E.written err.old) (E.written err.new) (fault_line result)) }
+        ⊎ (Rose (E.faults err.old) (E.faults err.new)
+        × AddsPrefix (E.written err.old) (E.written err.new) (fault_line result)) }
 
-    // No file changes, and the world is asked nothing.
-    ensures files { S.told store.new ≡ S.told store.old }
-    ensures world { W.replies _world.new ≡ W.replies _world.old }
+    // The files have the one that is put, and after a refusal they are as before. After a fault of
+    // the store the one that was to be put may have any bytes or none.
+    ensures files { IfSome (S.told store.old) (λ files.
+        Leaves result files (S.told store.new) (outcome (texts words.now) files)) }
+
+    // The world is asked by the command that records alone.
+    ensures world { asks_world (named_by (texts words.now)) ≡ false
+        → W.replies _world.new ≡ W.replies _world.old }
 {
     let status = run(alloc, words, store, out);
     let _ = write_fault(err, &status);

@@ -2,18 +2,11 @@
 #![tactic(auto)]
 
 mod command;
-mod fault_line;
-mod opening;
-mod report;
+mod done;
+mod failure;
 mod runs;
-mod status;
 mod store;
 mod trace;
-mod words;
 
 pub use command::{same_answer, sledge};
-pub use fault_line::write_fault;
-pub use status::Status;
-
-#[cfg(test)]
-mod tests;
+pub use report::{Refusal, Status, write_fault};

@@ -2,13 +2,12 @@
 
 ghost use Rattle.std.specs.Prelude.{◌≡◌, ◌<◌, IfOk};
 ghost use Rattle.std.specs.List.{flat_map};
-ghost use Rattle.epoch_run.specs.Records.{emit_at};
 ghost use Rattle.sl_base.specs.Refusals.{Tells};
-ghost use Rattle.sledge_top.specs.Epochs.{one_after_the_other, run_of};
+ghost use Rattle.sledge_top.specs.Runs.{one_after_the_other, run_in};
 
 use call_log::Break;
 use epoch_core::{CoreEvent, Post, run_schedule};
-use epoch_run::{Plan, PlanRuns, Worker, least_break_is_first, records_are_those_of_the_run};
+use epoch_run::{Plan, PlanRuns, Worker, values_are_the_run};
 use ordered_merge::{merge, merged_means};
 use sl_base::{Refused, Seq, Steps};
 use std::alloc::{AllocError, Global};
@@ -43,25 +42,24 @@ fn all_posts(alloc: Global, trays: Vec<Seq<Post>>) -> Result<Vec<Post>, AllocErr
 /// posts are merged. Steps are counted on a ledger of their own.
 pub fn run_plan<L: Ledger>(
     alloc: Global,
-    plan: Plan,
+    plan: &Plan,
     blank: Blank,
 ) -> Result<Seq<Record>, Refused<Break>>
     requires name { blank.name ≡ L.name }
     requires parts { blank.parts ≡ L.parts }
     requires some_parts { 0 < blank.parts }
-    ensures { Tells result (run_of plan.rec (emit_at plan.address 10) plan.checkpoints.opened) }
+    ensures { Tells result (run_in plan.now) }
 {
-    least_break_is_first();
-    records_are_those_of_the_run();
+    values_are_the_run();
     merged_means();
     let epochs = plan.epochs();
     let events = one_after_the_other(alloc, epochs)?;
-    let worker = Worker::new(alloc)?;
-    let steps = Steps::<L>::new(blank);
+    let mut worker = Worker::new(alloc)?;
+    let mut steps = Steps::<L>::new(blank);
     let mut runs = PlanRuns {
         plan,
-        worker,
-        steps,
+        worker: &mut worker,
+        steps: &mut steps,
     };
     let trays = run_schedule(alloc, &mut runs, epochs, 1, &events)?;
     let posts = all_posts(alloc, trays.into_vec())?;

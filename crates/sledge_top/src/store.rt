@@ -2,10 +2,11 @@
 
 ghost use Rattle.std.specs.Prelude.{◌≡◌, ◌≤◌, IfOk, IfErr, IfSome, IsErrOf};
 ghost use Rattle.sl_base.specs.Faults.{Rose};
-ghost use Rattle.sledge_top.specs.Status.{IsLaterRefusal};
-ghost use Rattle.sledge_top.specs.Answer.{Gives, file_of};
+ghost use Rattle.sledge_top.specs.Answer.{file_of};
+ghost use Rattle.sledge_top.specs.Views.{Comes, IsLaterFailure};
 
-use crate::status::Status;
+use crate::failure::Failure;
+use report::Refusal;
 use sl_base::{GetFault, Seq, Store};
 use std::alloc::{AllocError, Global};
 
@@ -16,29 +17,32 @@ fn name_of(alloc: Global, name: &str) -> Result<Seq<u8>, AllocError>
     Ok(Seq::from_vec(Vec::from_slice(alloc, name.as_bytes())?))
 }
 
-/// The bytes of a file, of which there are at most `limit`, or how the command ends.
+/// The bytes of a file, of which there are at most `limit`.
 pub fn file_of<S: Store>(
     alloc: Global,
     store: &mut S,
     name: &str,
     limit: u64,
-) -> Result<Vec<u8>, Status>
-    ensures file { IfSome (S.told store.old) (λ files. Gives (λ bytes. bytes.items) result (file_of files name.now limit)) }
-    ensures failed { IsErrOf result Status.StoreFault → Rose (S.faults store.old) (S.faults store.new) }
-    ensures refusal { IfErr result IsLaterRefusal }
+) -> Result<Vec<u8>, Failure>
+    ensures file { IfSome (S.told store.old) (λ files.
+        Comes (λ bytes. bytes.items) result (file_of files name.now limit)) }
+    ensures failed { IsErrOf result Failure.StoreFault
+        → Rose (S.faults store.old) (S.faults store.new) }
+    ensures later { IfErr result IsLaterFailure }
+    ensures faults { S.faults store.old ≤ S.faults store.new }
     ensures same { S.told store.new ≡ S.told store.old }
 {
     match store.get(alloc, name, limit) {
         Ok(bytes) => Ok(bytes),
         Err(GetFault::Absent) => {
             let name = name_of(alloc, name)?;
-            Err(Status::Absent { name })
+            Err(Failure::Refused(Refusal::Absent { name }))
         }
         Err(GetFault::TooLong) => {
             let name = name_of(alloc, name)?;
-            Err(Status::TooLong { limit, name })
+            Err(Failure::Refused(Refusal::TooLong { limit, name }))
         }
-        Err(GetFault::Failed) => Err(Status::StoreFault),
-        Err(GetFault::Memory) => Err(Status::Memory),
+        Err(GetFault::Failed) => Err(Failure::StoreFault),
+        Err(GetFault::Memory) => Err(Failure::Memory),
     }
 }

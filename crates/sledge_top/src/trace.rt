@@ -1,185 +1,181 @@
 //! The command that traces.
 
-ghost use Rattle.std.specs.Prelude.{◌≡◌, ◌++◌, ◌≤◌, ◌<◌, ◌∷◌, [], IfOk, IfErr, IfSome, IsErrOf, OnOk, true};
-ghost use Rattle.sl_model.specs.State.{State};
-ghost use Rattle.rv_machine.specs.Machine.{state_of};
-ghost use Rattle.rec_format.specs.Reading.{reading};
+ghost use Rattle.std.specs.Prelude.{◌≡◌, ◌≤◌, [], IfOk, IfErr, IfSome, IsErrOf};
+ghost use Rattle.sl_base.specs.Faults.{Rose};
+ghost use Rattle.sl_base.specs.Refusals.{Gives};
+ghost use Rattle.elf_image.specs.Loadable.{IsLoadable};
 ghost use Rattle.rec_format.specs.Rules.{IsRecordingValue};
-ghost use Rattle.checkpoints.specs.RecordedRun.{IsOpening};
-ghost use Rattle.epoch_run.specs.Opened.{IsOpened};
-ghost use Rattle.epoch_run.specs.EpochLaws.{IsAtEnd};
-ghost use Rattle.sledge_top.specs.Built.{is_built};
-ghost use Rattle.sledge_top.specs.Report.{all_lines, end_line, regs_line, report};
-ghost use Rattle.sledge_top.specs.Endings.{ending_of};
-ghost use Rattle.sledge_top.specs.Status.{IsLaterRefusal};
-ghost use Rattle.sledge_top.specs.Answer.{Gives, recording_of, built_of, opened, image_of, broken_by, traced, report_for};
+ghost use Rattle.replay.specs.Opening.{opening};
+ghost use Rattle.checkpoints.specs.RecordedRun.{opened_of};
+ghost use Rattle.sledge_top.specs.Answer.{recording_of, image_in, image_of, broken_by, has_no_calls, traced, report_of, report_for, trace_at};
+ghost use Rattle.sledge_top.specs.Endings.{IsLater, IsLaterFault};
+ghost use Rattle.sledge_top.specs.Views.{done_view, Comes, IsLaterFailure};
 
-use crate::opening::load;
-use crate::report::{push_end_line, push_record_line, push_regs_line};
+use crate::done::Done;
+use crate::failure::Failure;
 use crate::runs::run_plan;
-use crate::status::Status;
-use call_log::{Break, BreakKind, End};
+use crate::store::file_of;
+use call_log::{Break, BreakKind};
 use checkpoints::Checkpoints;
-use elf_image::flat_image;
+use elf_image::{Image, ImageFault, flat_image, read_image};
 use epoch_cut::cut;
-use epoch_run::{Plan, programs_open_so, runs_end_as_recorded, runs_fit};
-use page_frames::Frames;
+use epoch_run::{Plan, runs_end_as_recorded};
 use rec_format::{Recording, read_recording};
-use rv_machine::Machine;
-use sl_base::{Brand, Refused};
-use std::alloc::{AllocError, Global};
+use replay::load;
+use report::{Refusal, recorded_end, report_text};
+use sl_base::{Brand, Memory, Refused, Store};
+use std::alloc::Global;
 use std::sync::ledger::Blank;
-use tracer_lang::Record;
 
-/// Whether a recording is one that is built.
-fn is_built(rec: &Recording) -> bool
-    ensures { result ≡ is_built rec.now }
-{
-    rec.kind == 0 && rec.args.is_empty() && rec.calls.is_empty()
-}
+/// The most bytes of a recording.
+const RECORDING_LIMIT: u64 = 268_435_456;
 
-/// The recording that the bytes spell, where it is one that is built.
-pub fn recording_of(alloc: Global, bytes: &[u8]) -> Result<Recording, Status>
+/// The recording that the bytes spell.
+fn recording_of(alloc: Global, bytes: &[u8]) -> Result<Recording, Refused<Refusal>>
     ensures value { Gives (λ rec. rec) result (recording_of bytes.now) }
-    ensures built { IfOk result (λ rec. is_built rec ≡ true) }
     ensures rules { IfOk result IsRecordingValue }
-    ensures refusal { IfErr result IsLaterRefusal }
-    ensures no_store { IsErrOf result Status.StoreFault → ⊥ }
+    ensures later { IfErr result IsLaterFault }
 {
     match read_recording(alloc, bytes) {
-        Ok(rec) => {
-            if is_built(&rec) {
-                Ok(rec)
-            } else {
-                Err(Status::NotBuilt)
-            }
-        }
-        Err(Refused::Fault(fault)) => Err(Status::RecordingBroken(fault)),
-        Err(Refused::Memory) => Err(Status::Memory),
+        Ok(rec) => Ok(rec),
+        Err(Refused::Fault(fault)) => Err(Refused::Fault(Refusal::RecordingBroken(fault))),
+        Err(Refused::Memory) => Err(Refused::Memory),
     }
 }
 
-/// The opening state of a recording that is built.
-fn open(alloc: Global, rec: &Recording) -> Result<(Machine, Frames), Status>
-    requires args { rec.now.args ≡ [] }
-    ensures state { Gives (λ p. state_of p.0 p.1.pages) result (opened rec.now) }
-    ensures opening { IfOk result (λ p. IsOpening (state_of p.0 p.1.pages)) }
-    ensures opened { IfOk result (λ p. IsOpened (state_of p.0 p.1.pages)) }
-    ensures refusal { IfErr result IsLaterRefusal }
-    ensures no_store { IsErrOf result Status.StoreFault → ⊥ }
+/// The image of a recording, flat or an ELF file.
+fn image_in(alloc: Global, rec: &Recording) -> Result<Image, Refused<ImageFault>>
+    requires { IsRecordingValue rec.now }
+    ensures value { Gives (λ image. image) result (image_in rec.now) }
+    ensures loadable { IfOk result IsLoadable }
 {
-    let bytes = rec.image.as_slice();
-    match flat_image(alloc, rec.load_addr, bytes) {
-        Ok(_) => {}
-        Err(Refused::Fault(_)) => return Err(Status::NotBuilt),
-        Err(Refused::Memory) => return Err(Status::Memory),
+    if rec.kind == 0 {
+        flat_image(alloc, rec.load_addr, rec.image.as_slice())
+    } else {
+        read_image(alloc, rec.image.as_slice())
     }
-    programs_open_so();
-    runs_fit();
-    Ok(load(alloc, rec.load_addr, bytes)?)
 }
 
-/// How a command ends where the replay first differs from its recording.
-fn broken_by(first: Break) -> Status
-    ensures ending { result ≡ broken_by first first.kind }
-    ensures refusal { IsLaterRefusal result }
-    ensures no_store { result ≡ Status.StoreFault → ⊥ }
+/// The same, or how the command is refused.
+fn image_of(alloc: Global, rec: &Recording) -> Result<Image, Refused<Refusal>>
+    requires { IsRecordingValue rec.now }
+    ensures value { Gives (λ image. image) result (image_of rec.now) }
+    ensures loadable { IfOk result IsLoadable }
+    ensures later { IfErr result IsLaterFault }
+{
+    match image_in(alloc, rec) {
+        Ok(image) => Ok(image),
+        Err(Refused::Fault(fault)) => Err(Refused::Fault(Refusal::ImageBroken(fault))),
+        Err(Refused::Memory) => Err(Refused::Memory),
+    }
+}
+
+/// How a command is refused where the replay first differs from its recording.
+fn broken_by(first: Break) -> Refusal
+    ensures refusal { result ≡ broken_by first first.kind }
+    ensures later { IsLater result }
 {
     match first.kind {
-        BreakKind::CheckpointDiffers { .. } => Status::CheckpointDiffers(first),
+        BreakKind::CheckpointDiffers { .. } => Refusal::CheckpointDiffers(first),
         BreakKind::NoCall { .. }
         | BreakKind::CallDiffers { .. }
         | BreakKind::EarlyEnd { .. }
         | BreakKind::EndDiffers { .. }
-        | BreakKind::CallsLeft { .. } => Status::ReplayBroken(first),
+        | BreakKind::CallsLeft { .. } => Refusal::ReplayBroken(first),
     }
-}
-
-/// The lines of the analysis `all`.
-fn push_all_lines(alloc: Global, out: &mut Vec<u8>, records: &[Record]) -> Result<(), AllocError>
-    ensures { OnOk result (out.new.items ≡ out.old.items ++ all_lines 1 records.now) }
-{
-    for entry in records {
-        push_record_line(alloc, out, 1, "all", entry)?;
-    }
-    Ok(())
-}
-
-/// What a report says of the recorded end.
-#[derive(Drop)]
-struct Ending {
-    end: End,
-    count: u64,
-    pc: u32,
-    x: [u32; 32],
-}
-
-/// The recorded end.
-fn ending_of(rec: &Recording) -> Ending
-    ensures { result ≡ ending_of rec.now }
-{
-    let mut x = [0; 32];
-    x[1..].copy_from_slice(&rec.last.x);
-    Ending {
-        end: rec.end,
-        count: rec.last.count,
-        pc: rec.last.pc,
-        x,
-    }
-}
-
-/// The report with the analysis `all`, at the recorded end.
-fn report_of(alloc: Global, ending: &Ending, records: &[Record]) -> Result<Vec<u8>, AllocError>
-    ensures { IfOk result (λ text. text.items ≡ all_lines 1 records.now ++ end_line ending.now.end ending.now.count ending.now.pc ++ regs_line ending.now.x) }
-{
-    let mut out = Vec::new(alloc);
-    push_all_lines(alloc, &mut out, records)?;
-    push_end_line(&mut out, &ending.end, ending.count, ending.pc)?;
-    push_regs_line(alloc, &mut out, &ending.x)?;
-    Ok(out)
 }
 
 /// The report of a plan, with register a0 recorded wherever pc is at its address.
-fn report_of_plan(alloc: Global, plan: Plan) -> Result<Vec<u8>, Status>
-    ensures text { Gives (λ text. text.items) result (traced plan.rec plan.address plan.checkpoints.opened) }
-    ensures refusal { IfErr result IsLaterRefusal }
-    ensures no_store { IsErrOf result Status.StoreFault → ⊥ }
+fn report_of_plan(alloc: Global, plan: &Plan) -> Result<Vec<u8>, Refused<Refusal>>
+    ensures text { Gives (λ text. text.items) result
+        (traced plan.now.checkpoints.rec plan.now.address (opened_of plan.now.checkpoints)) }
+    ensures later { IfErr result IsLaterFault }
 {
     runs_end_as_recorded();
-    let ending = ending_of(&plan.rec);
+    let last = recorded_end(&plan.checkpoints.rec);
     match run_plan::<Brand>(alloc, plan, Blank::new(1)) {
-        Ok(records) => Ok(report_of(alloc, &ending, records.as_slice())?),
-        Err(Refused::Fault(first)) => Err(broken_by(first)),
-        Err(Refused::Memory) => Err(Status::Memory),
+        Ok(records) => Ok(report_text(alloc, records.as_slice(), &last)?),
+        Err(Refused::Fault(first)) => Err(Refused::Fault(broken_by(first))),
+        Err(Refused::Memory) => Err(Refused::Memory),
     }
 }
 
-/// The report of a recording that is built, with register a0 recorded wherever pc is at the address. It is replayed in
-/// at most so many epochs, or in one for each segment between checkpoints.
-pub fn trace_at(
+/// The checkpoints of a recording, from the opening state of its image.
+fn checkpoints_of(alloc: Global, rec: Recording, image: &Image) -> Result<Checkpoints, Memory>
+    requires rules { IsRecordingValue rec }
+    requires image { IsLoadable image.now }
+    ensures recording { IfOk result (λ checkpoints. checkpoints.rec ≡ rec) }
+    ensures opened { IfOk result (λ checkpoints.
+        opened_of checkpoints ≡ opening image.now rec.args) }
+{
+    let (machine, frames) = load(alloc, image, rec.args.as_slice())?;
+    Ok(Checkpoints::new(alloc, rec, machine, frames))
+}
+
+/// The report of a recording and its image. It is replayed in at most so many epochs, or in one for each interval
+/// between checkpoints.
+fn report_of(
     alloc: Global,
     rec: Recording,
+    image: Image,
     address: u32,
     epochs: Option<u32>,
-) -> Result<Vec<u8>, Status>
-    requires built { is_built rec ≡ true }
+) -> Result<Vec<u8>, Refused<Refusal>>
     requires rules { IsRecordingValue rec }
+    requires image { IsLoadable image }
     requires epochs { IfSome epochs (λ n. (1 ≤ n) × (n ≤ 4096)) }
-    ensures text { Gives (λ text. text.items) result (report_for rec address) }
-    ensures refusal { IfErr result IsLaterRefusal }
-    ensures no_store { IsErrOf result Status.StoreFault → ⊥ }
+    ensures text { Gives (λ text. text.items) result (report_of rec image address) }
+    ensures later { IfErr result IsLaterFault }
 {
-    let (m, opening) = open(alloc, &rec)?;
-    let checkpoints = Checkpoints::new(alloc, &rec, &m, &opening)?;
+    if !rec.calls.is_empty() {
+        return Err(Refused::Fault(Refusal::NotBuilt));
+    }
+    let checkpoints = checkpoints_of(alloc, rec, &image)?;
     let segments = checkpoints.segments();
     let cutting = cut(alloc, segments, epochs.unwrap_or(segments))?;
-    report_of_plan(
-        alloc,
-        Plan {
-            rec,
-            checkpoints,
-            cutting,
-            address,
-        },
-    )
+    let plan = Plan {
+        image,
+        checkpoints,
+        cutting,
+        address,
+    };
+    report_of_plan(alloc, &plan)
+}
+
+/// The report for the bytes of a recording.
+fn report_for(
+    alloc: Global,
+    bytes: &[u8],
+    address: u32,
+    epochs: Option<u32>,
+) -> Result<Vec<u8>, Refused<Refusal>>
+    requires epochs { IfSome epochs (λ n. (1 ≤ n) × (n ≤ 4096)) }
+    ensures text { Gives (λ text. text.items) result (report_for bytes.now address) }
+    ensures later { IfErr result IsLaterFault }
+{
+    let rec = recording_of(alloc, bytes)?;
+    let image = image_of(alloc, &rec)?;
+    report_of(alloc, rec, image, address, epochs)
+}
+
+/// `trace RECORDING at HEX`: the report of a recording, with register a0 recorded wherever pc is at the address.
+pub fn trace_at<'a, S: Store>(
+    alloc: Global,
+    recording: &str,
+    address: u32,
+    epochs: Option<u32>,
+    store: &mut S,
+) -> Result<Done<'a>, Failure>
+    requires epochs { IfSome epochs (λ n. (1 ≤ n) × (n ≤ 4096)) }
+    ensures answer { IfSome (S.told store.old) (λ files.
+        Comes done_view result (trace_at files recording.now address)) }
+    ensures failed { IsErrOf result Failure.StoreFault
+        → Rose (S.faults store.old) (S.faults store.new) }
+    ensures later { IfErr result IsLaterFailure }
+    ensures faults { S.faults store.old ≤ S.faults store.new }
+    ensures same { S.told store.new ≡ S.told store.old }
+{
+    let bytes = file_of(alloc, store, recording, RECORDING_LIMIT)?;
+    let text = report_for(alloc, &bytes, address, epochs)?;
+    Ok(Done { text, put: None })
 }

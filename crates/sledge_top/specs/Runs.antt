@@ -5,9 +5,12 @@ use Rattle.call_log.specs.declared.breaks.Break.{Break}
 use Rattle.rec_format.specs.declared.recording.Recording.{Recording}
 use Rattle.tracer_lang.specs.declared.record.Record.{Record}
 use Rattle.replay.specs.Breaks.{first_break}
+use Rattle.checkpoints.specs.RecordedRun.{opened_of}
 use Rattle.epoch_core.specs.declared.event.CoreEvent.{CoreEvent}
 use Rattle.epoch_core.specs.declared.event.CoreEvent.TheVariants.{Claim, Finish, Leave}
+use Rattle.epoch_run.specs.declared.plan.Plan.{Plan}
 use Rattle.epoch_run.specs.Records.{Tracers, records}
+use Rattle.epoch_run.specs.Plans.{tracers_of}
 
 -- what one run comes to: the records of its tracers, or its first break
 abbrev pub run_value : Option Break → List Record → Result (List Record) Break
@@ -16,6 +19,9 @@ run_value (Some first) left = Err first
 
 abbrev pub run_of : Recording → Tracers → State → Result (List Record) Break
 run_of rec tracers opened = run_value (first_break rec opened) (records rec tracers opened)
+
+abbrev pub run_in : Plan → Result (List Record) Break
+run_in plan = run_of plan.checkpoints.rec (tracers_of plan) (opened_of plan.checkpoints)
 
 -- worker 0 claims and runs so many epochs, one after the other
 abbrev pub turns : ℕ → List CoreEvent

@@ -1,0 +1,36 @@
+-- What the code keeps, as the definitions have it.
+use Rattle.std.specs.Prelude.{◌≡◌, Result, Ok, Err, ⊤}
+use Rattle.std.specs.Option.{option_map}
+use Rattle.sl_base.specs.declared.refused.Refused.{Refused}
+use Rattle.sl_base.specs.declared.refused.Refused.TheVariants as refused
+use Rattle.report.specs.declared.status.Refusal.{Refusal}
+use Rattle.sledge_top.specs.declared.done.Put.{Put as GivenPut}
+use Rattle.sledge_top.specs.declared.done.Done.{Done as GivenDone}
+use Rattle.sledge_top.specs.declared.failure.Failure.{Failure}
+use Rattle.sledge_top.specs.declared.failure.Failure.TheVariants as failure
+use Rattle.sledge_top.specs.Done.{Put, Done}
+use Rattle.sledge_top.specs.Endings.{IsLater}
+
+abbrev pub put_view : GivenPut → Put
+put_view put = record { name = put.name.now; bytes = put.bytes.items }
+
+abbrev pub done_view : GivenDone → Done
+done_view done = record { text = done.text.items; put = option_map put_view done.put }
+
+-- what a part of a command returned, seen by a view, is what it comes to, unless memory was wanting
+-- or the store failed
+abbrev pub Comes : {X A : Type 0} → (X → A) → Result X Failure → Result A Refusal → Type 0
+Comes view (Ok x) defined = defined ≡ Ok (view x)
+Comes view (Err (failure.Refused why)) defined = defined ≡ Err why
+Comes view (Err failure.StoreFault) defined = ⊤
+Comes view (Err failure.Memory) defined = ⊤
+
+-- a refusal or want of memory, as the failure that it is
+abbrev pub failure_of : Refused Refusal → Failure
+failure_of (refused.Fault why) = failure.Refused why
+failure_of refused.Memory = failure.Memory
+
+abbrev pub IsLaterFailure : Failure → Type 0
+IsLaterFailure (failure.Refused why) = IsLater why
+IsLaterFailure failure.StoreFault = ⊤
+IsLaterFailure failure.Memory = ⊤
