@@ -57,3 +57,7 @@ AllPass-append [] ys all = (tt, all)
 AllPass-append (x ∷ xs) ys all =
     let rest = AllPass-append xs ys all.1 in
     ((all.0, rest.0), rest.1)
+
+pub AllPass-both : (xs ys : List Check) → AllPass xs → AllPass ys → AllPass (xs ++ ys)
+AllPass-both [] ys first second = second
+AllPass-both (x ∷ xs) ys first second = (first.0, AllPass-both xs ys first.1 second)

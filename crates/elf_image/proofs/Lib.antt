@@ -8,6 +8,13 @@ pub mod HeaderLoop
 mod Offsets
 mod SymbolLoops
 mod Names
+mod WrittenLengths
+mod Stands
+mod WrittenParts
+mod WrittenHeader
+mod WrittenSegments
+mod WrittenSymbols
+mod WrittenImage
 pub mod LoadedLaws
 pub mod Bytes
 pub mod ElfLaws

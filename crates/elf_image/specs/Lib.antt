@@ -7,3 +7,5 @@ pub mod Segments
 pub mod Symbols
 pub mod Elf
 pub mod Ranges
+pub mod Written
+pub mod Names

@@ -8,7 +8,9 @@ mod flat;
 mod header;
 mod headers;
 mod image;
+mod layout;
 mod loaded;
+mod lookup;
 mod memory;
 mod pages;
 mod reading;
@@ -16,8 +18,11 @@ mod segments;
 mod symbols;
 #[cfg(test)]
 mod tests;
+mod writing;
 
 pub use fault::{ImageCause, ImageFault};
 pub use flat::flat_image;
 pub use image::{Image, Segment};
+pub use lookup::symbol;
 pub use reading::{image_or_fault, read_image};
+pub use writing::write_image;
