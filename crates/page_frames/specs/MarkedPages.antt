@@ -30,7 +30,8 @@ mark dirty page = if list_any (nat_eq page) dirty then dirty else dirty ++ page 
 -- the same with the page of each of some bytes from an address on
 unfoldable pub mark_bytes : List ℕ → ℕ → ℕ → List ℕ
 mark_bytes dirty address zero = dirty
-mark_bytes dirty address (suc count) = mark_bytes (mark dirty (address / PAGE_SIZE)) (address + 1) count
+mark_bytes dirty address (suc count) =
+    mark_bytes (mark dirty (address / PAGE_SIZE)) (address + 1) count
 
 -- a page of zeros, which is dirty, where the page is not mapped yet
 abbrev pub with_page : MarkedPages → ℕ → MarkedPages
@@ -45,7 +46,8 @@ with_pages m first (suc count) = with_pages (with_page m first) (first + 1) coun
 
 -- bytes from an address on, whose pages are dirty
 abbrev pub with_bytes : MarkedPages → ℕ → List ℕ → MarkedPages
-with_bytes m address bytes = record { pages = set_bytes m.pages address bytes; dirty = mark_bytes m.dirty address (length bytes) }
+with_bytes m address bytes =
+    record { pages = set_bytes m.pages address bytes; dirty = mark_bytes m.dirty address (length bytes) }
 
 -- what holds of every memory
 pub record IsKept (m : MarkedPages) : Type 0 where

@@ -124,7 +124,8 @@ impl Frames {
         ensures none { IfNone result ((page : ℕ) → from ≤ page → get self.now.pages page ≡ None) }
         ensures above { IfSome result (λ next. from ≤ next) }
         ensures mapped { IfSome result (λ next. IsSome (get self.now.pages next)) }
-        ensures least { IfSome result (λ next. (page : ℕ) → from ≤ page → page < next → get self.now.pages page ≡ None) }
+        ensures least { IfSome result (λ next. (page : ℕ)
+            → from ≤ page → page < next → get self.now.pages page ≡ None) }
     {
         let (page, _) = self.frames.range(from..).next()?;
         Some(*page)
@@ -183,7 +184,8 @@ impl Frames {
     /// The page that was marked last is no longer dirty.
     fn unmark_last(&mut self)
         requires { 0 < length self.old.dirty }
-        ensures { self.new ≡ record self.old { dirty = take (length self.old.dirty - 1) self.old.dirty } }
+        ensures { let left = length self.old.dirty - 1 in
+            self.new ≡ record self.old { dirty = take left self.old.dirty } }
     {
         let Some(page) = self.dirty.pop() else {
             unreachable!()
@@ -206,7 +208,8 @@ impl Frames {
     pub fn next_dirty(&self, at: Option<u32>) -> Option<u32>
         requires { IfSome at (Contains self.now.dirty) }
         ensures first { IfNone at (result ≡ slice_get self.now.dirty 0) }
-        ensures next { IfSome at (λ page. (i : ℕ) → slice_get self.now.dirty i ≡ Some page → result ≡ slice_get self.now.dirty (i + 1)) }
+        ensures next { IfSome at (λ page. (i : ℕ)
+            → slice_get self.now.dirty i ≡ Some page → result ≡ slice_get self.now.dirty (i + 1)) }
         ensures dirty { IfSome result (Contains self.now.dirty) }
     {
         let index = match at {
@@ -251,7 +254,8 @@ impl Frames {
     fn store_across(&mut self, addr: u32, bytes: &[u8]) -> bool
         requires { length bytes.now ≤ 4 }
         ensures mapped { result ≡ is_some (bytes_at self.old.pages addr (length bytes.now)) }
-        ensures contents { self.new ≡ (if result then with_bytes self.old addr bytes.now else self.old) }
+        ensures contents { self.new
+            ≡ (if result then with_bytes self.old addr bytes.now else self.old) }
     {
         if !self.is_mapped(addr, bytes.len() as u32) {
             return false;
@@ -265,7 +269,8 @@ impl Frames {
     fn put(&mut self, addr: u32, width: u8, value: u32) -> bool
         requires { IsWidth width }
         ensures mapped { result ≡ is_some (bytes_at self.old.pages addr width) }
-        ensures contents { self.new ≡ (if result then with_bytes self.old addr (low_bytes width value) else self.old) }
+        ensures contents { self.new
+            ≡ (if result then with_bytes self.old addr (low_bytes width value) else self.old) }
     {
         let offset = (addr % 4096) as usize;
         if offset + usize::from(width) > PAGE_LEN {
@@ -302,9 +307,11 @@ impl Bus for Frames {
     fn store(&mut self, addr: u32, width: u8, value: u32) -> bool
         requires { IsWidth width }
         ensures mapped { result ≡ is_some (store_at self.old.pages addr width value) }
-        ensures bytes { self.new.pages ≡ unwrap_or (store_at self.old.pages addr width value) self.old.pages }
+        ensures bytes { self.new.pages
+            ≡ unwrap_or (store_at self.old.pages addr width value) self.old.pages }
         ensures marks { MarksGoOn true self.old.pages self.old.dirty self.new.pages self.new.dirty }
-        ensures contents { self.new ≡ (if result then with_bytes self.old addr (low_bytes width value) else self.old) }
+        ensures contents { self.new
+            ≡ (if result then with_bytes self.old addr (low_bytes width value) else self.old) }
     {
         self.put(addr, width, value)
     }

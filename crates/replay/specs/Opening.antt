@@ -30,7 +30,8 @@ mapped image = map_pages (map_segments empty image.segments) FIRST_STACK_PAGE ST
 -- the bytes of each segment stand at its start
 unfoldable pub fill_segments : Pages → List Segment → Pages
 fill_segments pages [] = pages
-fill_segments pages (segment ∷ segments) = fill_segments (set_bytes pages segment.vaddr segment.bytes) segments
+fill_segments pages (segment ∷ segments) =
+    fill_segments (set_bytes pages segment.vaddr segment.bytes) segments
 
 -- ---- the stack
 
@@ -51,8 +52,8 @@ abbrev pub string_addresses : ℕ → List (List ℕ) → List ℕ
 string_addresses address [] = []
 string_addresses address (arg ∷ args) = address ∷ string_addresses (address + length arg + 1) args
 
--- the words at the stack pointer: the number of arguments, their addresses, and four zeros, which end them, are the
--- empty environment and the empty list behind it
+-- the words at the stack pointer: the number of arguments, their addresses, and four zeros, which end
+-- them, are the empty environment and the empty list behind it
 abbrev pub stack_words : List (List ℕ) → List ℕ
 stack_words args = length args ∷ (string_addresses (strings_start args) args ++ replicate 4 0)
 

@@ -21,13 +21,15 @@ state_of m pages = record {
   layout = m.layout;
 }
 
--- The machine and its memory went on to what is next, and the outcome tells it. A call and a trap change nothing.
+-- The machine and its memory went on to what is next, and the outcome tells it. A call and a trap
+-- change nothing.
 abbrev pub WentOn : Next → Machine → Pages → Outcome → Machine → Pages → Type 0
 WentOn next m pages Stepped m' pages' = next ≡ SteppedTo (state_of m' pages')
 WentOn next m pages Call m' pages' = (next ≡ Called) × (m' ≡ m) × (pages' ≡ pages)
 WentOn next m pages (Trap number) m' pages' = (next ≡ Trapped number) × (m' ≡ m) × (pages' ≡ pages)
 
--- The machine is at another place, with these registers and one more instruction done. All else stays.
+-- The machine is at another place, with these registers and one more instruction done. All else
+-- stays.
 pub record WentTo (m : Machine) (place : ℕ) (registers : List ℕ) (m' : Machine) : Type 0 where
   pub pc : m'.pc ≡ place
   pub x : m'.x ≡ registers

@@ -56,7 +56,8 @@ pub(crate) fn address(m: &Machine, rs1: Register, offset: Bits<12>) -> u32
 #[inline(always)]
 fn advance(m: &mut Machine, rd: Register, value: u32) -> Outcome
     requires { m.old.count < 2 ^ 62 }
-    ensures went_on { (pages : Pages) → WentOn (next.advance (state_of m.old pages) rd value) m.old pages result m.new pages }
+    ensures went_on { (pages : Pages)
+        → WentOn (next.advance (state_of m.old pages) rd value) m.old pages result m.new pages }
     ensures count { result ≡ Outcome.Stepped → m.new.count ≡ m.old.count + 1 }
 {
     let after = m.pc.wrapping_add(4);
@@ -68,7 +69,8 @@ fn advance(m: &mut Machine, rd: Register, value: u32) -> Outcome
 #[inline(always)]
 fn jump(m: &mut Machine, rd: Register, target: u32) -> Outcome
     requires { m.old.count < 2 ^ 62 }
-    ensures went_on { (pages : Pages) → WentOn (next.jump (state_of m.old pages) rd target) m.old pages result m.new pages }
+    ensures went_on { (pages : Pages)
+        → WentOn (next.jump (state_of m.old pages) rd target) m.old pages result m.new pages }
     ensures count { result ≡ Outcome.Stepped → m.new.count ≡ m.old.count + 1 }
 {
     if target % 4 != 0 {
@@ -83,7 +85,8 @@ fn jump(m: &mut Machine, rd: Register, target: u32) -> Outcome
 #[inline(always)]
 fn branch(m: &mut Machine, target: u32) -> Outcome
     requires { m.old.count < 2 ^ 62 }
-    ensures went_on { (pages : Pages) → WentOn (next.branch (state_of m.old pages) target) m.old pages result m.new pages }
+    ensures went_on { (pages : Pages)
+        → WentOn (next.branch (state_of m.old pages) target) m.old pages result m.new pages }
     ensures count { result ≡ Outcome.Stepped → m.new.count ≡ m.old.count + 1 }
 {
     if target % 4 != 0 {
@@ -107,7 +110,8 @@ fn pass(m: &mut Machine)
 #[inline(always)]
 fn load<B: Bus>(m: &mut Machine, bus: &B, op: LoadOp, rd: Register, addr: u32) -> Outcome
     requires { m.old.count < 2 ^ 62 }
-    ensures went_on { let pages = B.pages bus.now in WentOn (next.load (state_of m.old pages) op rd addr) m.old pages result m.new pages }
+    ensures went_on { let pages = B.pages bus.now in
+        WentOn (next.load (state_of m.old pages) op rd addr) m.old pages result m.new pages }
     ensures count { result ≡ Outcome.Stepped → m.new.count ≡ m.old.count + 1 }
 {
     match bus.load(addr, arithmetic::load_width(op)) {
@@ -120,9 +124,11 @@ fn load<B: Bus>(m: &mut Machine, bus: &B, op: LoadOp, rd: Register, addr: u32) -
 #[inline(always)]
 fn store<B: Bus>(m: &mut Machine, bus: &mut B, op: StoreOp, addr: u32, value: u32) -> Outcome
     requires { m.old.count < 2 ^ 62 }
-    ensures went_on { WentOn (next.store (state_of m.old (B.pages bus.old)) op addr value) m.old (B.pages bus.old) result m.new (B.pages bus.new) }
+    ensures went_on { WentOn (next.store (state_of m.old (B.pages bus.old)) op addr value)
+        m.old (B.pages bus.old) result m.new (B.pages bus.new) }
     ensures marking { B.is_marking bus.new ≡ B.is_marking bus.old }
-    ensures marks { MarksGoOn (B.is_marking bus.old) (B.pages bus.old) (B.marked bus.old) (B.pages bus.new) (B.marked bus.new) }
+    ensures marks { MarksGoOn (B.is_marking bus.old)
+        (B.pages bus.old) (B.marked bus.old) (B.pages bus.new) (B.marked bus.new) }
     ensures kept { result ≢ Outcome.Stepped → B.marked bus.new ≡ B.marked bus.old }
     ensures count { result ≡ Outcome.Stepped → m.new.count ≡ m.old.count + 1 }
 {
@@ -139,9 +145,11 @@ fn store<B: Bus>(m: &mut Machine, bus: &mut B, op: StoreOp, addr: u32, value: u3
 #[tactic(auto, unfolding(sl_model::specs::Step::execute))]
 pub fn execute<B: Bus>(m: &mut Machine, bus: &mut B, instr: Instr) -> Outcome
     requires { m.old.count < 2 ^ 62 }
-    ensures went_on { WentOn (next.execute (state_of m.old (B.pages bus.old)) instr) m.old (B.pages bus.old) result m.new (B.pages bus.new) }
+    ensures went_on { WentOn (next.execute (state_of m.old (B.pages bus.old)) instr)
+        m.old (B.pages bus.old) result m.new (B.pages bus.new) }
     ensures marking { B.is_marking bus.new ≡ B.is_marking bus.old }
-    ensures marks { MarksGoOn (B.is_marking bus.old) (B.pages bus.old) (B.marked bus.old) (B.pages bus.new) (B.marked bus.new) }
+    ensures marks { MarksGoOn (B.is_marking bus.old)
+        (B.pages bus.old) (B.marked bus.old) (B.pages bus.new) (B.marked bus.new) }
     ensures kept { result ≢ Outcome.Stepped → B.marked bus.new ≡ B.marked bus.old }
     ensures count { result ≡ Outcome.Stepped → m.new.count ≡ m.old.count + 1 }
 {

@@ -18,9 +18,11 @@ use std::sync::ledger::Ledger;
 fn do_next<B: Bus>(m: &mut Machine, bus: &mut B) -> Outcome
     requires running { m.old.status ≡ RunState.Running }
     requires count { m.old.count < 2 ^ 62 }
-    ensures next { WentOn (next.step (state_of m.old (B.pages bus.old))) m.old (B.pages bus.old) result m.new (B.pages bus.new) }
+    ensures next { WentOn (next.step (state_of m.old (B.pages bus.old)))
+        m.old (B.pages bus.old) result m.new (B.pages bus.new) }
     ensures marking { B.is_marking bus.new ≡ B.is_marking bus.old }
-    ensures marks { MarksGoOn (B.is_marking bus.old) (B.pages bus.old) (B.marked bus.old) (B.pages bus.new) (B.marked bus.new) }
+    ensures marks { MarksGoOn (B.is_marking bus.old)
+        (B.pages bus.old) (B.marked bus.old) (B.pages bus.new) (B.marked bus.new) }
     ensures kept { result ≢ Outcome.Stepped → B.marked bus.new ≡ B.marked bus.old }
     ensures count { result ≡ Outcome.Stepped → m.new.count ≡ m.old.count + 1 }
 {
@@ -43,9 +45,11 @@ fn do_next<B: Bus>(m: &mut Machine, bus: &mut B) -> Outcome
 pub fn step<B: Bus, L: Ledger>(m: &mut Machine, bus: &mut B, steps: &mut Steps<L>) -> Outcome
     requires running { m.old.status ≡ RunState.Running }
     requires count { m.old.count < 2 ^ 62 }
-    ensures next { WentOn (next.step (state_of m.old (B.pages bus.old))) m.old (B.pages bus.old) result m.new (B.pages bus.new) }
+    ensures next { WentOn (next.step (state_of m.old (B.pages bus.old)))
+        m.old (B.pages bus.old) result m.new (B.pages bus.new) }
     ensures marking { B.is_marking bus.new ≡ B.is_marking bus.old }
-    ensures marks { MarksGoOn (B.is_marking bus.old) (B.pages bus.old) (B.marked bus.old) (B.pages bus.new) (B.marked bus.new) }
+    ensures marks { MarksGoOn (B.is_marking bus.old)
+        (B.pages bus.old) (B.marked bus.old) (B.pages bus.new) (B.marked bus.new) }
     ensures kept { result ≢ Outcome.Stepped → B.marked bus.new ≡ B.marked bus.old }
     ensures count { result ≡ Outcome.Stepped → m.new.count ≡ m.old.count + 1 }
     ensures counted { result ≡ Outcome.Stepped → steps.new ≡ steps.old + 1 }

@@ -1,4 +1,4 @@
--- The text of an instruction, as the RISC-V Unprivileged ISA and its calling convention name the parts of it.
+-- The text of an instruction, as the RISC-V Unprivileged ISA and its calling convention name its parts.
 use Rattle.std.specs.Prelude.{ℕ, List, [], ◌∷◌, ◌++◌, codes, decimal}
 use Rattle.std.specs.List.{slice_index_or}
 use Rattle.std.specs.Fmt.{signed_decimal}
@@ -23,10 +23,13 @@ use Rattle.sl_model.specs.Arithmetic.{signed, immediate_word, branch_word, jump_
 -- x0 to x31, as the calling convention names them
 abbrev pub register_names : List (List ℕ)
 register_names =
-    codes "zero" ∷ codes "ra" ∷ codes "sp" ∷ codes "gp" ∷ codes "tp" ∷ codes "t0" ∷ codes "t1" ∷ codes "t2"
-    ∷ codes "s0" ∷ codes "s1" ∷ codes "a0" ∷ codes "a1" ∷ codes "a2" ∷ codes "a3" ∷ codes "a4" ∷ codes "a5"
-    ∷ codes "a6" ∷ codes "a7" ∷ codes "s2" ∷ codes "s3" ∷ codes "s4" ∷ codes "s5" ∷ codes "s6" ∷ codes "s7"
-    ∷ codes "s8" ∷ codes "s9" ∷ codes "s10" ∷ codes "s11" ∷ codes "t3" ∷ codes "t4" ∷ codes "t5" ∷ codes "t6" ∷ []
+    codes "zero" ∷ codes "ra" ∷ codes "sp" ∷ codes "gp" ∷ codes "tp"
+    ∷ codes "t0" ∷ codes "t1" ∷ codes "t2" ∷ codes "s0" ∷ codes "s1"
+    ∷ codes "a0" ∷ codes "a1" ∷ codes "a2" ∷ codes "a3"
+    ∷ codes "a4" ∷ codes "a5" ∷ codes "a6" ∷ codes "a7"
+    ∷ codes "s2" ∷ codes "s3" ∷ codes "s4" ∷ codes "s5" ∷ codes "s6"
+    ∷ codes "s7" ∷ codes "s8" ∷ codes "s9" ∷ codes "s10" ∷ codes "s11"
+    ∷ codes "t3" ∷ codes "t4" ∷ codes "t5" ∷ codes "t6" ∷ []
 
 unfoldable pub register_name : ℕ → List ℕ
 register_name n = slice_index_or register_names n []
@@ -111,16 +114,26 @@ address offset base = number offset ++ in_parentheses (register_name base)
 abbrev pub instr_text : Instr → List ℕ
 instr_text (Lui rd imm) = two_operands (codes "lui") (register_name rd) (decimal imm)
 instr_text (Auipc rd imm) = two_operands (codes "auipc") (register_name rd) (decimal imm)
-instr_text (Jal rd half_offset) = two_operands (codes "jal") (register_name rd) (number (jump_word half_offset))
-instr_text (Jalr rd rs1 offset) = two_operands (codes "jalr") (register_name rd) (address (immediate_word offset) rs1)
+instr_text (Jal rd half_offset) =
+    two_operands (codes "jal") (register_name rd) (number (jump_word half_offset))
+instr_text (Jalr rd rs1 offset) =
+    two_operands (codes "jalr") (register_name rd) (address (immediate_word offset) rs1)
 instr_text (Branch op rs1 rs2 half_offset) =
-    three_operands (branch_name op) (register_name rs1) (register_name rs2) (number (branch_word half_offset))
-instr_text (Load op rd rs1 offset) = two_operands (load_name op) (register_name rd) (address (immediate_word offset) rs1)
-instr_text (Store op rs1 rs2 offset) = two_operands (store_name op) (register_name rs2) (address (immediate_word offset) rs1)
-instr_text (OpImm op rd rs1 imm) = three_operands (immediate_name op) (register_name rd) (register_name rs1) (number (immediate_word imm))
-instr_text (Shift op rd rs1 amount) = three_operands (shift_name op) (register_name rd) (register_name rs1) (decimal amount)
-instr_text (Op op rd rs1 rs2) = three_operands (operation_name op) (register_name rd) (register_name rs1) (register_name rs2)
-instr_text (MulDiv op rd rs1 rs2) = three_operands (mul_div_name op) (register_name rd) (register_name rs1) (register_name rs2)
+    three_operands (branch_name op) (register_name rs1) (register_name rs2)
+    (number (branch_word half_offset))
+instr_text (Load op rd rs1 offset) =
+    two_operands (load_name op) (register_name rd) (address (immediate_word offset) rs1)
+instr_text (Store op rs1 rs2 offset) =
+    two_operands (store_name op) (register_name rs2) (address (immediate_word offset) rs1)
+instr_text (OpImm op rd rs1 imm) =
+    three_operands (immediate_name op) (register_name rd) (register_name rs1)
+    (number (immediate_word imm))
+instr_text (Shift op rd rs1 amount) =
+    three_operands (shift_name op) (register_name rd) (register_name rs1) (decimal amount)
+instr_text (Op op rd rs1 rs2) =
+    three_operands (operation_name op) (register_name rd) (register_name rs1) (register_name rs2)
+instr_text (MulDiv op rd rs1 rs2) =
+    three_operands (mul_div_name op) (register_name rd) (register_name rs1) (register_name rs2)
 instr_text (Fence high rd) = codes "fence"
 instr_text Ecall = codes "ecall"
 instr_text Ebreak = codes "ebreak"

@@ -3,9 +3,7 @@
 ghost use Rattle.std.specs.Prelude.{◌≡◌};
 ghost use Rattle.rv_text.specs.Text.{register_name, branch_name, load_name, store_name, immediate_name, shift_name, operation_name, mul_div_name};
 
-use rv_decode::{
-    BranchOp, ImmediateOp, LoadOp, MulDivOp, Register, RegisterOp, ShiftOp, StoreOp,
-};
+use rv_decode::{BranchOp, ImmediateOp, LoadOp, MulDivOp, Register, RegisterOp, ShiftOp, StoreOp};
 
 /// The name of a register in the calling convention.
 #[tactic(auto, unfolding(crate::specs::Text::register_name))]

@@ -21,16 +21,22 @@ ArePages pages = (number : ℕ) → IfSome (get pages number) (λ page. (number 
 
 -- the byte at an address, or None where it is not mapped
 unfoldable pub byte_at : Pages → ℕ → Option ℕ
-byte_at pages address = option_and_then (λ page. slice_get page (address % PAGE_SIZE)) (get pages (address / PAGE_SIZE))
+byte_at pages address =
+    option_and_then (λ page. slice_get page (address % PAGE_SIZE)) (get pages (address / PAGE_SIZE))
 
 -- the bytes from an address on, or None where one of them is not mapped
 unfoldable pub bytes_at : Pages → ℕ → ℕ → Option (List ℕ)
 bytes_at pages address zero = Some []
-bytes_at pages address (suc count) = option_and_then (λ b. option_map (λ bs. b ∷ bs) (bytes_at pages (address + 1) count)) (byte_at pages address)
+bytes_at pages address (suc count) =
+    option_and_then (λ b. option_map (λ bs. b ∷ bs) (bytes_at pages (address + 1) count))
+    (byte_at pages address)
 
 -- the pages with another byte at an address; an address that is not mapped changes nothing
 unfoldable pub set_byte : Pages → ℕ → ℕ → Pages
-set_byte pages address b = unwrap_or (option_map (λ page. insert pages (address / PAGE_SIZE) (slice_set page (address % PAGE_SIZE) b)) (get pages (address / PAGE_SIZE))) pages
+set_byte pages address b =
+    let number : ℕ = address / PAGE_SIZE in
+    let with_byte : List ℕ → Pages = λ page. insert pages number (slice_set page (address % PAGE_SIZE) b) in
+    unwrap_or (option_map with_byte (get pages number)) pages
 
 -- a page with these bytes from an index on
 unfoldable pub put_bytes : List ℕ → ℕ → List ℕ → List ℕ
@@ -60,6 +66,8 @@ IsWidth width = (width ≡ 1) ⊎ (width ≡ 2) ⊎ (width ≡ 4)
 unfoldable pub load_at : Pages → ℕ → ℕ → Option ℕ
 load_at pages address width = option_map from_bytes (bytes_at pages address width)
 
--- the pages after the low bytes of a value were written at an address, or None where one of them is not mapped
+-- the pages after the low bytes of a value were written at an address, or None where one of them is
+-- not mapped
 unfoldable pub store_at : Pages → ℕ → ℕ → ℕ → Option Pages
-store_at pages address width value = option_map (λ _. set_bytes pages address (low_bytes width value)) (bytes_at pages address width)
+store_at pages address width value =
+    option_map (λ _. set_bytes pages address (low_bytes width value)) (bytes_at pages address width)

@@ -67,22 +67,24 @@ pub record FitsLayout (layout : Layout) : Type 0 where
 
 -- whether a page lies outside of the range of the heap
 abbrev pub is_outside_heap : Layout → ℕ → Bool
-is_outside_heap layout page = not (nat_le layout.brk_start (page * PAGE_SIZE) && nat_lt (page * PAGE_SIZE) layout.heap_limit)
+is_outside_heap layout page =
+    not (nat_le layout.brk_start (page * PAGE_SIZE) && nat_lt (page * PAGE_SIZE) layout.heap_limit)
 
--- Memory and heap are laid out as a program's: all pages are below the end of memory, those of the heap are mapped
--- exactly below its mapped end, and at most 12,288 pages lie outside of it.
+-- Memory and heap are laid out as a program's: all pages are below the end of memory, those of the heap
+-- are mapped exactly below its mapped end, and at most 12,288 pages lie outside of it.
 pub record Fits (s : State) : Type 0 where
   pub layout : FitsLayout s.layout
   pub mapped_end : s.brk_end % PAGE_SIZE ≡ 0
   pub end_from : s.layout.brk_start ≤ s.brk_end
   pub end_to : s.brk_end ≤ s.layout.heap_limit
   pub pages_below : (page : ℕ) → IsSome (get s.pages page) → page * PAGE_SIZE < MEMORY_END
-  pub heap : (page : ℕ) → s.layout.brk_start ≤ page * PAGE_SIZE → page * PAGE_SIZE < s.layout.heap_limit
+  pub heap : (page : ℕ)
+      → s.layout.brk_start ≤ page * PAGE_SIZE → page * PAGE_SIZE < s.layout.heap_limit
       → IsSome (get s.pages page) ↔ (page * PAGE_SIZE < s.brk_end)
   pub few : length (filter (is_outside_heap s.layout) (keys s.pages)) ≤ MOST_LOADED_PAGES
 
--- A program before its first instruction: a state that fits and runs, with no instruction done, no call answered, and
--- none of its heap mapped.
+-- A program before its first instruction: a state that fits and runs, with no instruction done, no call
+-- answered, and none of its heap mapped.
 pub record IsOpening (s : State) : Type 0 where
   pub state : IsState s
   pub fits : Fits s

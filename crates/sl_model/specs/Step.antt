@@ -37,7 +37,9 @@ advance s rd value = Stepped (gone_to (put_register s rd value) (after s))
 
 -- a jump, which leaves the place after it in a register
 abbrev pub jump : State → ℕ → ℕ → Next
-jump s rd target = if target % 4 == 0 then Stepped (gone_to (put_register s rd (after s)) target) else Trapped MISALIGNED
+jump s rd target =
+    if target % 4 == 0 then Stepped (gone_to (put_register s rd (after s)) target)
+    else Trapped MISALIGNED
 
 -- a branch, which writes no register
 abbrev pub branch : State → ℕ → Next
@@ -83,7 +85,8 @@ execute s (Branch op rs1 rs2 half_offset) =
     else pass s
 execute s (Load op rd rs1 offset) = load s op rd (address s rs1 offset)
 execute s (Store op rs1 rs2 offset) = store s op (address s rs1 offset) (register s rs2)
-execute s (OpImm op rd rs1 imm) = advance s rd (immediate_value op (register s rs1) (immediate_word imm))
+execute s (OpImm op rd rs1 imm) =
+    advance s rd (immediate_value op (register s rs1) (immediate_word imm))
 execute s (Shift op rd rs1 amount) = advance s rd (shift_value op (register s rs1) amount)
 execute s (Op op rd rs1 rs2) = advance s rd (register_value op (register s rs1) (register s rs2))
 execute s (MulDiv op rd rs1 rs2) = advance s rd (mul_div_value op (register s rs1) (register s rs2))

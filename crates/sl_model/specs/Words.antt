@@ -1,4 +1,5 @@
--- The instruction words of RV32IM, by the instruction table of the RISC-V Unprivileged ISA. A word is a number below 2 ^ 32.
+-- The instruction words of RV32IM, by the instruction table of the RISC-V Unprivileged ISA. A word is a
+-- number below 2 ^ 32.
 use Rattle.std.specs.Prelude.{◌≡◌, ℕ, ◌+◌, ◌-◌, ◌*◌, ◌/◌, ◌%◌, ◌^◌, ◌<◌, ◌==◌, ◌&&◌, if◌then◌else◌, Option, Some, None}
 use Rattle.std.specs.Option.{option_map}
 use Rattle.sl_model.specs.declared.opcodes.TheConstants as opcodes
@@ -152,7 +153,8 @@ mul_div_funct3 Remu = 0b111
 
 -- the word's bits are those of the instruction
 abbrev pub HasBits : ℕ → Instr → Type 0
-HasBits word (Lui rd imm) = (opcode word ≡ opcodes.LUI) × (rd_of word ≡ rd) × (u_immediate word ≡ imm)
+HasBits word (Lui rd imm) =
+    (opcode word ≡ opcodes.LUI) × (rd_of word ≡ rd) × (u_immediate word ≡ imm)
 HasBits word (Auipc rd imm) =
     (opcode word ≡ opcodes.AUIPC) × (rd_of word ≡ rd) × (u_immediate word ≡ imm)
 HasBits word (Jal rd half_offset) =
@@ -173,10 +175,12 @@ HasBits word (OpImm op rd rs1 imm) =
     (opcode word ≡ opcodes.OP_IMM) × (funct3 word ≡ immediate_funct3 op)
     × (rd_of word ≡ rd) × (rs1_of word ≡ rs1) × (i_immediate word ≡ imm)
 HasBits word (Shift op rd rs1 amount) =
-    (opcode word ≡ opcodes.OP_IMM) × (funct3 word ≡ shift_funct3 op) × (funct7 word ≡ shift_funct7 op)
+    (opcode word ≡ opcodes.OP_IMM)
+    × (funct3 word ≡ shift_funct3 op) × (funct7 word ≡ shift_funct7 op)
     × (rd_of word ≡ rd) × (rs1_of word ≡ rs1) × (rs2_of word ≡ amount)
 HasBits word (Op op rd rs1 rs2) =
-    (opcode word ≡ opcodes.OP) × (funct3 word ≡ register_funct3 op) × (funct7 word ≡ register_funct7 op)
+    (opcode word ≡ opcodes.OP)
+    × (funct3 word ≡ register_funct3 op) × (funct7 word ≡ register_funct7 op)
     × (rd_of word ≡ rd) × (rs1_of word ≡ rs1) × (rs2_of word ≡ rs2)
 HasBits word (MulDiv op rd rs1 rs2) =
     (opcode word ≡ opcodes.OP) × (funct3 word ≡ mul_div_funct3 op) × (funct7 word ≡ opcodes.MULDIV)
@@ -192,7 +196,7 @@ pub record Means (word : ℕ) (instr : Instr) : Type 0 where
   pub in_range : IsWord word
   pub has_bits : HasBits word instr
 
--- ---- the same as a function, for the step to compute with: the instruction that a word means, or None
+-- ---- the same as a function, for the step to compute with: what a word means, or None
 
 unfoldable pub branch_op : ℕ → Option BranchOp
 branch_op f =
@@ -275,7 +279,8 @@ jalr_meaning word =
 
 unfoldable pub branch_meaning : ℕ → Option Instr
 branch_meaning word =
-    option_map (λ op. Branch op (rs1_of word) (rs2_of word) (b_immediate word)) (branch_op (funct3 word))
+    option_map (λ op. Branch op (rs1_of word) (rs2_of word) (b_immediate word))
+    (branch_op (funct3 word))
 
 unfoldable pub load_meaning : ℕ → Option Instr
 load_meaning word =
@@ -283,15 +288,17 @@ load_meaning word =
 
 unfoldable pub store_meaning : ℕ → Option Instr
 store_meaning word =
-    option_map (λ op. Store op (rs1_of word) (rs2_of word) (s_immediate word)) (store_op (funct3 word))
+    option_map (λ op. Store op (rs1_of word) (rs2_of word) (s_immediate word))
+    (store_op (funct3 word))
 
 -- shifts have the funct3 of SLLI or of SRLI
 unfoldable pub immediate_meaning : ℕ → Option Instr
 immediate_meaning word =
     let shift = λ (op : ShiftOp). Shift op (rd_of word) (rs1_of word) (rs2_of word) in
     let op_imm = λ (op : ImmediateOp). OpImm op (rd_of word) (rs1_of word) (i_immediate word) in
-    if funct3 word == shift_funct3 Slli then option_map shift (shift_op (funct7 word) (funct3 word))
-    else if funct3 word == shift_funct3 Srli then option_map shift (shift_op (funct7 word) (funct3 word))
+    let shifts : Option Instr = option_map shift (shift_op (funct7 word) (funct3 word)) in
+    if funct3 word == shift_funct3 Slli then shifts
+    else if funct3 word == shift_funct3 Srli then shifts
     else option_map op_imm (immediate_op (funct3 word))
 
 unfoldable pub register_meaning : ℕ → Option Instr
@@ -302,11 +309,14 @@ register_meaning word =
     else option_map plain (register_op (funct7 word) (funct3 word))
 
 unfoldable pub fence_meaning : ℕ → Option Instr
-fence_meaning word = if funct3 word == 0b000 then Some (Fence (bits 31 15 word) (rd_of word)) else None
+fence_meaning word =
+    if funct3 word == 0b000 then Some (Fence (bits 31 15 word) (rd_of word)) else None
 
 unfoldable pub system_meaning : ℕ → Option Instr
 system_meaning word =
-    if word == opcodes.ECALL then Some Ecall else if word == opcodes.EBREAK then Some Ebreak else None
+    if word == opcodes.ECALL then Some Ecall
+    else if word == opcodes.EBREAK then Some Ebreak
+    else None
 
 unfoldable pub meaning : ℕ → Option Instr
 meaning word =

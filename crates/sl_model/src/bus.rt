@@ -28,8 +28,10 @@ pub trait Bus {
     fn store(&mut self, addr: u32, width: u8, value: u32) -> bool
         requires { IsWidth width }
         ensures mapped { result ≡ is_some (store_at (pages self.old) addr width value) }
-        ensures bytes { pages self.new ≡ unwrap_or (store_at (pages self.old) addr width value) (pages self.old) }
+        ensures bytes { pages self.new
+            ≡ unwrap_or (store_at (pages self.old) addr width value) (pages self.old) }
         ensures unmapped { OnFalse result (marked self.new ≡ marked self.old) }
         ensures marking { is_marking self.new ≡ is_marking self.old }
-        ensures marks { MarksGoOn (is_marking self.old) (pages self.old) (marked self.old) (pages self.new) (marked self.new) };
+        ensures marks { MarksGoOn (is_marking self.old)
+            (pages self.old) (marked self.old) (pages self.new) (marked self.new) };
 }

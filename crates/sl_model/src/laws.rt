@@ -16,7 +16,8 @@ ghost use Rattle.sl_model.specs.Words.{IsWord, Means, meaning};
 
 /// A word means an instruction by its bits exactly where the function of words says so.
 pub fn words_mean()
-    ensures found { (word : ℕ) (instr : Instr) → IsWord word → meaning word ≡ Some instr → Means word instr }
+    ensures found { (word : ℕ) (instr : Instr)
+        → IsWord word → meaning word ≡ Some instr → Means word instr }
     ensures only { (word : ℕ) (instr : Instr) → Means word instr → meaning word ≡ Some instr }
 {}
 
@@ -32,11 +33,16 @@ pub fn one_word()
 
 /// What the operations give on words are words.
 pub fn operations_give_words()
-    ensures immediate { (op : ImmediateOp) (a b : ℕ) → IsWord a → IsWord b → IsWord (value.immediate_value op a b) }
-    ensures shift { (op : ShiftOp) (a amount : ℕ) → IsWord a → IsWord (value.shift_value op a amount) }
-    ensures register { (op : RegisterOp) (a b : ℕ) → IsWord a → IsWord b → IsWord (value.register_value op a b) }
-    ensures multiply { (op : MulDivOp) (a b : ℕ) → IsWord a → IsWord b → IsWord (value.mul_div_value op a b) }
-    ensures load { (op : LoadOp) (n : ℕ) → n < 256 ^ value.load_width op → IsWord (value.load_value op n) }
+    ensures immediate { (op : ImmediateOp) (a b : ℕ)
+        → IsWord a → IsWord b → IsWord (value.immediate_value op a b) }
+    ensures shift { (op : ShiftOp) (a amount : ℕ)
+        → IsWord a → IsWord (value.shift_value op a amount) }
+    ensures register { (op : RegisterOp) (a b : ℕ)
+        → IsWord a → IsWord b → IsWord (value.register_value op a b) }
+    ensures mul_div { (op : MulDivOp) (a b : ℕ)
+        → IsWord a → IsWord b → IsWord (value.mul_div_value op a b) }
+    ensures load { (op : LoadOp) (n : ℕ)
+        → n < 256 ^ value.load_width op → IsWord (value.load_value op n) }
 {}
 
 /// A load of the bytes that were stored gives the value that was stored, every other byte stays, and no page is mapped
@@ -45,7 +51,8 @@ pub fn stores_are_loaded()
     ensures done { (pages : Pages) (address width value : ℕ)
         → is_some (store_at pages address width value) ≡ is_some (load_at pages address width) }
     ensures stored { (before after : Pages) (address width value : ℕ)
-        → store_at before address width value ≡ Some after → IsStored address width value before after }
+        → store_at before address width value ≡ Some after
+        → IsStored address width value before after }
     ensures pages { (before after : Pages) (address width value : ℕ)
         → store_at before address width value ≡ Some after → ArePages before → ArePages after }
 {}
