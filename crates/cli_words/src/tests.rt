@@ -52,6 +52,8 @@ replay a.rec --epochs 2 =>
 replay a.rec b.rec =>
 check a.rec => Check { recording: "a.rec" }
 check =>
+trace =>
+trace a.rec =>
 record a.elf b.rec => Record { image: "a.elf", output: "b.rec", options: RecordOptions { flat: None, limit: 1000000000, every: 1000000, arguments: [] } }
 record a.bin b.rec --flat 10000 --limit 1099511627776 --every=1 => Record { image: "a.bin", output: "b.rec", options: RecordOptions { flat: Some(65536), limit: 1099511627776, every: 1, arguments: [] } }
 record a.elf b.rec --arg= --arg=-x --arg y --arg=a=b => Record { image: "a.elf", output: "b.rec", options: RecordOptions { flat: None, limit: 1000000000, every: 1000000, arguments: ["", "-x", "y", "a=b"] } }

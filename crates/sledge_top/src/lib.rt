@@ -10,3 +10,6 @@ mod trace;
 
 pub use command::{same_answer, sledge};
 pub use report::{Refusal, Status, write_fault};
+
+#[cfg(test)]
+mod tests;

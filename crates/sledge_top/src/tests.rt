@@ -1,0 +1,6 @@
+//! Commands over stores in memory, with outputs that were worked by hand.
+
+mod recordings;
+mod refusals;
+mod running;
+mod traces;

@@ -1,0 +1,151 @@
+//! Refusals by words and files, and outputs that fail.
+
+use super::recordings::recording;
+use super::running::{store_of, tells, words_of};
+use super::traces::EXITS;
+use crate::sledge;
+use sl_base::{GetFault, MemorySink, MemoryStore, MemoryWorld, NoGate, PutFault, Store};
+use std::alloc::Global;
+use std::test::Fail;
+
+/// Words over an empty file named `a.rec`, and how the command ends.
+const ROWS: &str = "\
+trace => 1 sledge: usage
+trace a.rec => 1 sledge: usage
+ => 1 sledge: usage
+trace a.rec at => 1 sledge: usage
+trace a.rec at 0 0 => 1 sledge: usage
+trace -x at 0 => 1 sledge: usage
+trace -- at 0 => 1 sledge: usage
+trace a.rec to 0 => 1 sledge: usage
+Trace a.rec at 0 => 1 sledge: usage
+trace a.rec at 0x => 1 sledge: usage
+trace a.rec at 0X1 => 1 sledge: usage
+trace a.rec at 123456789 => 1 sledge: usage
+trace a.rec at 1g => 1 sledge: usage
+trace a.rec at +1 => 1 sledge: usage
+trace none.rec at 0 => 2 sledge: absent: none.rec
+trace - at 0 => 2 sledge: absent: -
+trace none.rec at 0xFFffFFff => 2 sledge: absent: none.rec
+trace a.rec at 10008 => 4 sledge: recording broken at 0: Short
+trace a.rec at 0 --epochs => 1 sledge: usage
+trace a.rec at 0 --epochs= => 1 sledge: usage
+trace a.rec at 0 --epochs 0 => 1 sledge: usage
+trace a.rec at 0 --epochs 4097 => 1 sledge: usage
+trace a.rec at 0 --epochs -1 => 1 sledge: usage
+trace a.rec at 0 --epochs 0x2 => 1 sledge: usage
+trace a.rec at 0 --epoch 2 => 1 sledge: usage
+trace a.rec at 0 --epochs 00000000000002 => 1 sledge: usage
+trace a.rec at 0 --epochs=2 --epochs=2 => 1 sledge: usage
+--epochs=2 trace a.rec at 0 => 1 sledge: usage
+trace --epochs 4096 none.rec at 0 => 2 sledge: absent: none.rec
+trace none.rec --epochs=0000000000001 at 0 => 2 sledge: absent: none.rec
+trace none.rec at --epochs 1 0 => 2 sledge: absent: none.rec
+trace none.rec at 0 --workers 1 --analyse all => 2 sledge: absent: none.rec
+trace none.rec at 0 --workers 2 => 1 sledge: usage
+trace none.rec at 0 --analyse count => 1 sledge: usage
+trace none.rec at 0 --analyse all --analyse all => 1 sledge: usage
+trace none.rec none.sl => 1 sledge: usage
+replay none.rec => 1 sledge: usage
+check none.rec => 1 sledge: usage
+record none.elf b.rec => 1 sledge: usage
+recut none.rec b.rec => 1 sledge: usage
+asm none.s b.elf => 1 sledge: usage
+show none.elf 0 1 => 1 sledge: usage
+gen 0 1 => 1 sledge: usage
+";
+
+#[test]
+fn refusals(rt: HostRuntime) -> Result<(), Fail> {
+    let alloc = rt.alloc();
+    for row in ROWS.lines() {
+        let (words, text) = row.split_once(" => ").ok_or("no row")?;
+        let text = format!(in alloc; "{text}\n")?;
+        assert!(rt; tells(&rt, alloc, &[], words, text.as_str())?, "{row}");
+    }
+    Ok(())
+}
+
+/// A store whose one file is longer than any limit.
+#[derive(Drop)]
+struct LongStore;
+
+impl Store for LongStore {
+    ghost use Rattle.std.specs.Prelude.{None};
+
+    ghost told = { λ _. None };
+
+    ghost faults = { λ _. 0 };
+
+    fn get(&mut self, _alloc: Global, _name: &str, _limit: u64) -> Result<Vec<u8>, GetFault> {
+        Err(GetFault::TooLong)
+    }
+
+    fn put(&mut self, _alloc: Global, _name: &str, _bytes: &[u8]) -> Result<(), PutFault> {
+        Err(PutFault::Memory)
+    }
+}
+
+#[test]
+fn files_that_are_not_got(rt: HostRuntime) -> Result<(), Fail> {
+    let alloc = rt.alloc();
+    let words = words_of(alloc, "trace l.rec at 0")?;
+    let mut out = MemorySink::new(alloc, 100, Vec::new(alloc))?;
+    let mut err = MemorySink::new(alloc, 100, Vec::new(alloc))?;
+    let mut world = MemoryWorld::new(Vec::new(alloc));
+    let status = sledge(
+        &rt,
+        alloc,
+        &words,
+        &mut LongStore,
+        &mut world,
+        &mut out,
+        &mut err,
+        &NoGate,
+    );
+    assert_eq!(rt; status.code(), 3);
+    let mut store = store_of(alloc, "l.rec", &[], &[1])?;
+    let status = sledge(
+        &rt, alloc, &words, &mut store, &mut world, &mut out, &mut err, &NoGate,
+    );
+    assert_eq!(rt; status.code(), 10);
+    let lines = b"sledge: longer than 268435456 bytes: l.rec\nsledge: store fault\n";
+    assert_eq!(rt; err.bytes(), lines.as_slice());
+    assert!(rt; out.bytes().is_empty());
+    Ok(())
+}
+
+/// A fault of the second output cuts its line and changes no status.
+#[test]
+fn second_output_fails(rt: HostRuntime) -> Result<(), Fail> {
+    let alloc = rt.alloc();
+    let mut store = MemoryStore::new(Vec::new(alloc), Vec::new(alloc));
+    let mut out = MemorySink::new(alloc, 100, Vec::new(alloc))?;
+    let mut err = MemorySink::new(alloc, 10, Vec::new(alloc))?;
+    let mut world = MemoryWorld::new(Vec::new(alloc));
+    let words = words_of(alloc, "trace none.rec at 0")?;
+    let status = sledge(
+        &rt, alloc, &words, &mut store, &mut world, &mut out, &mut err, &NoGate,
+    );
+    assert_eq!(rt; status.code(), 2);
+    assert_eq!(rt; err.bytes(), b"sledge: ab".as_slice());
+    Ok(())
+}
+
+/// A first output with room for ten bytes holds the first ten of the report.
+#[test]
+fn first_output_fails(rt: HostRuntime) -> Result<(), Fail> {
+    let alloc = rt.alloc();
+    let mut store = store_of(alloc, "a.rec", &recording(alloc, EXITS)?, &[])?;
+    let mut out = MemorySink::new(alloc, 10, Vec::new(alloc))?;
+    let mut err = MemorySink::new(alloc, 100, Vec::new(alloc))?;
+    let mut world = MemoryWorld::new(Vec::new(alloc));
+    let words = words_of(alloc, "trace a.rec at 10008")?;
+    let status = sledge(
+        &rt, alloc, &words, &mut store, &mut world, &mut out, &mut err, &NoGate,
+    );
+    assert_eq!(rt; status.code(), 11);
+    assert_eq!(rt; out.bytes(), b"1,all,2,0,".as_slice());
+    assert_eq!(rt; err.bytes(), b"sledge: sink fault\n".as_slice());
+    Ok(())
+}

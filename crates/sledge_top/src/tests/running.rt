@@ -1,0 +1,61 @@
+//! Runs commands over a file in memory.
+
+use crate::sledge;
+use sl_base::{MemorySink, MemoryStore, MemoryWorld, NoGate};
+use std::alloc::Global;
+use std::test::Fail;
+use std::thread::Threads;
+
+/// The words of a text with one blank between two.
+pub fn words_of(alloc: Global, text: &str) -> Result<Vec<String>, Fail> {
+    let mut words = Vec::new(alloc);
+    for word in text.split_whitespace() {
+        words.push(String::from_str(alloc, word)?)?;
+    }
+    Ok(words)
+}
+
+/// A store with one file, whose calls with these numbers fail.
+pub fn store_of(
+    alloc: Global,
+    name: &str,
+    bytes: &[u8],
+    failing: &[u32],
+) -> Result<MemoryStore, Fail> {
+    let mut files = Vec::new(alloc);
+    files.push((String::from_str(alloc, name)?, bytes.to_vec(alloc)?))?;
+    Ok(MemoryStore::new(files, Vec::from_slice(alloc, failing)?))
+}
+
+/// The number, the first and the second output of a command over the file `a.rec`, as one text: the number, a blank,
+/// and what was written.
+fn told<R: Threads + Sync>(
+    rt: &R,
+    alloc: Global,
+    bytes: &[u8],
+    words: &str,
+) -> Result<Vec<u8>, Fail> {
+    let mut store = store_of(alloc, "a.rec", bytes, &[])?;
+    let mut out = MemorySink::new(alloc, 300, Vec::new(alloc))?;
+    let mut err = MemorySink::new(alloc, 150, Vec::new(alloc))?;
+    let mut world = MemoryWorld::new(Vec::new(alloc));
+    let words = words_of(alloc, words)?;
+    let status = sledge(
+        rt, alloc, &words, &mut store, &mut world, &mut out, &mut err, &NoGate,
+    );
+    let mut text = format!(in alloc; "{} ", status.code())?.into_bytes();
+    text.extend_from_slice(out.bytes())?;
+    text.extend_from_slice(err.bytes())?;
+    Ok(text)
+}
+
+/// Whether a command over the file `a.rec` ends with the number that begins this text, and writes the rest.
+pub fn tells<R: Threads + Sync>(
+    rt: &R,
+    alloc: Global,
+    bytes: &[u8],
+    words: &str,
+    text: &str,
+) -> Result<bool, Fail> {
+    Ok(told(rt, alloc, bytes, words)?.as_slice() == text.as_bytes())
+}
