@@ -251,7 +251,7 @@ fn loads_and_stores(rt: HostRuntime) -> Result<(), Fail> {
             op,
             rs1: x(1),
             rs2: x(2),
-            half_offset: Bits::<12>::low(1),
+            offset: Bits::<12>::low(1),
         };
         assert_eq!(rt; value(&rt, memory, store, base, 0x1122_3344), 0);
         assert_eq!(rt; memory.load(0x10100, 4), Some(stored));
