@@ -1,5 +1,5 @@
 -- A segment that starts at the recorded state of its first checkpoint.
-use Rattle.std.proofs.Common.{◌≡◌, ℕ, ◌+◌, ◌-◌, ◌<◌, ◌≤◌, List, ◌++◌, Some, None, refl, sym, ap, ◌∙◌, arith}
+use Rattle.std.proofs.Common.{◌≡◌, ℕ, ◌+◌, ◌-◌, ◌<◌, ◌≤◌, List, ◌++◌, Some, None, refl, sym, ap, subst, ◌∙◌, arith}
 use Rattle.std.specs.Option.{option_or}
 use Rattle.sl_base.specs.declared.refused.Refused.{Refused}
 use Rattle.sl_base.specs.declared.refused.Refused.TheVariants as refused
@@ -14,13 +14,13 @@ use Rattle.rec_format.specs.Recorded.{end_place, checkpoint_at, recorded_state, 
 use Rattle.rec_format.specs.Compared.{checkpoint_break}
 use Rattle.epoch_run.specs.Records.{Tracers}
 use Rattle.epoch_run.specs.Epochs.{epoch_size, epoch_break_from, epoch_break, epoch_records_from, epoch_records, closing_break, closing_records}
-use Rattle.sl_model.specs.State.{IsOpening}
+use Rattle.sl_model.specs.State.{Fits, IsOpening}
 use Rattle.checkpoints.specs.RecordedRun.{opened_of}
 use Rattle.epoch_run.specs.declared.plan.Plan.{Plan}
 use Rattle.epoch_run.specs.declared.plan.Worker.{Worker}
 use Rattle.epoch_run.specs.Plans.{state_in}
 use Rattle.epoch_run.specs.Segments.{IsUnderWay, BrokeOff, StopsAt}
-use Rattle.rec_format.proofs.RecordedStates.{count-recorded}
+use Rattle.rec_format.proofs.RecordedStates.{count-recorded, Fits-recorded}
 use Rattle.epoch_run.proofs.Arrived.{run-zero}
 use Rattle.epoch_run.proofs.OneRun.{run_joins}
 use Rattle.epoch_run.proofs.SoFar.{counts_up}
@@ -44,6 +44,9 @@ module _ (rec : Recording) (opened : State) (j : ℕ) (s : State) (upto : ℕ) (
 
   total : upto - s.count ≡ epoch_size rec j (j + 1)
   total = omega (arith, start, is.last)
+
+  pub starts_fitting : Fits s
+  starts_fitting = subst Fits (sym is.at) (Fits-recorded rec opened j is.value is.opens)
 
   pub starts_below : s.count ≤ upto
   starts_below =

@@ -1,6 +1,6 @@
 //! What epochs are run of, and what runs them.
 
-ghost use Rattle.std.specs.Prelude.{◌≡◌, [], IfOk};
+ghost use Rattle.std.specs.Prelude.{◌≡◌, IfOk};
 ghost use Rattle.std.specs.FinMap.{empty};
 ghost use Rattle.rec_format.specs.Recorded.{end_place};
 ghost use Rattle.epoch_cut.specs.Places.{IsCutting};
@@ -16,7 +16,7 @@ use sl_base::Memory;
 use sl_model::{Layout, RunState};
 use std::alloc::Global;
 
-/// A recording without recorded calls, cut into epochs, with the tracer that runs on them.
+/// A recording, cut into epochs, with the tracer that runs on them.
 #[derive(Drop)]
 pub struct Plan {
     /// The image that the program is loaded from.
@@ -27,7 +27,6 @@ pub struct Plan {
     pub cutting: Cutting,
     /// Where the tracer records register a0.
     pub address: u32,
-    ghost no_calls: { checkpoints.rec.calls ≡ [] },
     ghost loaded: { IsLoaded image checkpoints } by { IsLoaded-prop image checkpoints },
     ghost cuts: { IsCutting (end_place checkpoints.rec) cutting },
 }

@@ -1,6 +1,7 @@
 //! One interval of a recorded run, from a checkpoint to the next one.
 
 ghost use Rattle.std.specs.Prelude.{◌≡◌, ◌+◌, ◌-◌, ◌<◌, ◌≤◌, ◌^◌, ◌++◌, OnOk};
+ghost use Rattle.sl_model.specs.State.{Fits};
 ghost use Rattle.rec_format.specs.Recorded.{end_place, recorded_state};
 ghost use Rattle.checkpoints.specs.RecordedRun.{opened_of};
 ghost use Rattle.epoch_run.specs.Epochs.{epoch_size, epoch_break, epoch_records};
@@ -44,6 +45,7 @@ fn run_to<L: Ledger>(
 ) -> Result<(), Refused<Break>>
     requires from { worker.old.m.count ≤ upto }
     requires few { upto ≤ 2 ^ 40 }
+    requires fits { Fits (state_in worker.old) }
     ensures came { let rec = plan.now.checkpoints.rec in
         let left = upto - worker.old.m.count in
         CameTo rec (tracers_of plan.now) (state_in worker.old) left (state_in worker.new)
@@ -54,7 +56,7 @@ fn run_to<L: Ledger>(
     for done in worker.m.count..upto {
         fire(alloc, plan, worker, records)?;
         let rec = &plan.checkpoints.rec;
-        if let Err(stop) = advance_one(rec, &mut worker.m, &mut worker.f, steps) {
+        if let Err(stop) = advance_one(alloc, rec, &mut worker.m, &mut worker.f, steps) {
             return Err(stopped_at(done, stop));
         }
     }

@@ -60,8 +60,19 @@ same_outside true m o apart = refl
 same_outside false true o apart = apart refl
 same_outside false false o apart = refl
 
+-- the part of it that tells which pages are mapped
+pub record HasHeap (opened s : State) : Type 0 where
+  pub layout : s.layout ≡ opened.layout
+  pub end_page : s.brk_end % 4096 ≡ 0
+  pub end_from : opened.layout.brk_start ≤ s.brk_end
+  pub end_to : s.brk_end ≤ opened.layout.heap_limit
+  pub mapped : (number : ℕ) → is_some (get s.pages number) ≡ is_mapped opened s.brk_end number
+
+pub heap_of : (opened s : State) → IsInRun opened s → HasHeap opened s
+heap_of opened s is = record { layout = is.layout; end_page = is.end_page; end_from = is.end_from; end_to = is.end_to; mapped = is.mapped }
+
 -- what a run reaches from a state that fits
-pub Grows-run : (s t : State) → Fits s → IsInRun s t → s.brk_end ≤ t.brk_end → Grows s t
+pub Grows-run : (s t : State) → Fits s → HasHeap s t → s.brk_end ≤ t.brk_end → Grows s t
 Grows-run s t fits runs grew = record {
   layout = runs.layout;
   end_page = runs.end_page;
@@ -87,12 +98,9 @@ within_itself true m has = refl
 within_itself false true has = has refl
 within_itself false false has = refl
 
--- a state that fits is one of its own run
-pub own_run : (s : State) → IsState s → Fits s → IsInRun s s
-own_run s is fits = record {
-  registers = is.registers;
-  zero = is.zero;
-  whole = AreWhole-pages s.pages is.pages;
+-- a state that fits has its own heap, and is one of its own run
+pub own_heap : (s : State) → Fits s → HasHeap s s
+own_heap s fits = record {
   layout = refl;
   end_page = fits.mapped_end;
   end_from = fits.end_from;
@@ -101,6 +109,11 @@ own_run s is fits = record {
       let place = among_is s.layout.brk_start s.brk_end page heap fits.mapped_end fits.layout.start in
       (fits.heap page place.0 (omega (arith, place.1, fits.end_to))).1 place.1);
 }
+
+own_run : (s : State) → IsState s → Fits s → IsInRun s s
+own_run s is fits =
+    let heap = own_heap s fits in
+    record { registers = is.registers; zero = is.zero; whole = AreWhole-pages s.pages is.pages; layout = heap.layout; end_page = heap.end_page; end_from = heap.end_from; end_to = heap.end_to; mapped = heap.mapped }
 
 pub IsInRun-opened : (opened : State) → IsOpening opened → IsInRun opened opened
 IsInRun-opened opened is = own_run opened is.state is.fits

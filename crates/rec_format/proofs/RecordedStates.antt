@@ -18,7 +18,7 @@ use Rattle.sl_model.proofs.Mapping.{or_zeros, is_among, get-map_pages}
 use Rattle.sl_model.specs.State.{State, Fits, IsOpening}
 use Rattle.sl_model.proofs.Fitting.{Fits-grows}
 use Rattle.rec_format.proofs.Listed.{all_listed_to, length-last_listing, IsCheckpoint-at}
-use Rattle.rec_format.proofs.InRun.{IsInRun, IsInRun-opened, Grows-run, is_mapped}
+use Rattle.rec_format.proofs.InRun.{IsInRun, IsInRun-opened, Grows-run, heap_of, is_mapped}
 
 -- ---- listed pages in memory
 
@@ -151,4 +151,4 @@ count-recorded rec opened (suc k) opens = refl
 pub Fits-recorded : (rec : Recording) (opened : State) (k : ℕ) → IsRecordingValue rec → IsOpening opened → Fits (recorded_state rec opened k)
 Fits-recorded rec opened k is opens =
     let runs = IsInRun-recorded rec opened k is opens in
-    Fits-grows opened (recorded_state rec opened k) opens.fits (Grows-run opened (recorded_state rec opened k) opens.fits runs (omega (arith, runs.end_from, opens.no_heap)))
+    Fits-grows opened (recorded_state rec opened k) opens.fits (Grows-run opened (recorded_state rec opened k) opens.fits (heap_of opened (recorded_state rec opened k) runs) (omega (arith, runs.end_from, opens.no_heap)))

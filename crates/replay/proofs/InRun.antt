@@ -9,7 +9,7 @@ use Rattle.sl_model.specs.declared.run_state.RunState.{RunState}
 use Rattle.sl_model.specs.declared.run_state.RunState.TheVariants.{Running, Exited}
 use Rattle.sl_model.specs.Pages.{set_bytes}
 use Rattle.sl_model.specs.PagesLaws.{is_some-set_bytes}
-use Rattle.sl_model.specs.State.{State, IsState, Fits, IsOpening, register}
+use Rattle.sl_model.specs.State.{State, Fits, IsOpening, register}
 use Rattle.sl_model.specs.Step.{Next, Stepped, Called, Trapped, step, put_register, gone_to, after}
 use Rattle.call_log.specs.declared.ask.Ask.{Ask}
 use Rattle.call_log.specs.declared.ask.CallDiff.{CallDiff}
@@ -24,10 +24,10 @@ use Rattle.sl_base.specs.World.{write_number}
 use Rattle.sl_model.proofs.Mapping.{is_among, get-map_pages, is_some-or_zeros, AreWhole-map_pages}
 use Rattle.sl_model.proofs.WholePages.{AreWhole-set_bytes}
 use Rattle.sl_model.proofs.Steps.{IsNext-register, IsNext-place, IsNext-step}
-use Rattle.sl_model.proofs.Fitting.{Fits-grows}
+use Rattle.sl_model.proofs.Fitting.{Fits-grows, Fits-same, Fits-step}
 use Rattle.sl_model.proofs.Mapping.{is_among, get-map_pages, is_some-or_zeros, AreWhole-map_pages}
 use Rattle.sl_model.proofs.WholePages.{AreWhole-set_bytes}
-use Rattle.rec_format.proofs.InRun.{IsInRun, IsInRun-next, Grows-run, own_run}
+use Rattle.rec_format.proofs.InRun.{IsInRun, IsInRun-next, HasHeap, Grows-run, heap_of, own_heap}
 
 -- ---- calls
 
@@ -56,15 +56,12 @@ new_end s address true is page limit below =
     let within : address ≤ s.layout.heap_limit = leb-true address s.layout.heap_limit (and_parts (nat_le s.layout.brk_start address) (nat_le address s.layout.heap_limit) is).1 in
     record { page = omega arith; from = omega arith; to = omega arith }
 
-IsInRun-brk : (opened s : State) (address : ℕ) → opened.layout.heap_limit % 4096 ≡ 0 → IsInRun opened s → IsInRun opened (brk_done s address)
-IsInRun-brk opened s address limit is =
+HasHeap-brk : (opened s : State) (address : ℕ) → opened.layout.heap_limit % 4096 ≡ 0 → HasHeap opened s → HasHeap opened (brk_done s address)
+HasHeap-brk opened s address limit is =
     let end = new_end s address (is_break s address) refl is.end_page (rw is.layout limit) (rw is.layout is.end_to) in
     let new : ℕ = brk_mapped_end s address in
     let to : s.brk_end / 4096 + (new / 4096 - s.brk_end / 4096) ≡ new / 4096 = omega (arith, end.from) in
     record {
-      registers = is.registers;
-      zero = is.zero;
-      whole = AreWhole-map_pages s.pages (s.brk_end / 4096) (new / 4096 - s.brk_end / 4096) is.whole;
       layout = is.layout;
       end_page = end.page;
       end_from = omega (arith, is.end_from, end.from);
@@ -75,6 +72,21 @@ IsInRun-brk opened s address limit is =
           ∙ ap (λ b. b || is_among (s.brk_end / 4096) (new / 4096) number) (is.mapped number)
           ∙ or_assoc (is_some (get opened.pages number)) (is_among (opened.layout.brk_start / 4096) (s.brk_end / 4096) number) (is_among (s.brk_end / 4096) (new / 4096) number)
           ∙ ap (λ b. is_some (get opened.pages number) || b) (sym (heap_grows opened.layout.brk_start s.brk_end new number is.end_from end.from));
+    }
+
+IsInRun-brk : (opened s : State) (address : ℕ) → opened.layout.heap_limit % 4096 ≡ 0 → IsInRun opened s → IsInRun opened (brk_done s address)
+IsInRun-brk opened s address limit is =
+    let heap = HasHeap-brk opened s address limit (heap_of opened s is) in
+    let new : ℕ = brk_mapped_end s address in
+    record {
+      registers = is.registers;
+      zero = is.zero;
+      whole = AreWhole-map_pages s.pages (s.brk_end / 4096) (new / 4096 - s.brk_end / 4096) is.whole;
+      layout = heap.layout;
+      end_page = heap.end_page;
+      end_from = heap.end_from;
+      end_to = heap.end_to;
+      mapped = heap.mapped;
     }
 
 -- the bytes that a call brings
@@ -187,15 +199,60 @@ kept : (rec : Recording) (opened s : State) → opened.layout.heap_limit % 4096 
 unfolding onward
 kept rec opened s limit is = kept_in rec opened s s.status limit is
 
--- from any state whose heap ends at a page
-pub IsInRun-kept : (rec : Recording) (opened s t : State) → opened.layout.heap_limit % 4096 ≡ 0 → IsInRun opened s → onward rec s ≡ Goes t → GoesOn opened s t
-IsInRun-kept rec opened s t limit is goes = subst (IsKept opened s) goes (kept rec opened s limit is)
-
 pub IsInRun-onward : (rec : Recording) (opened s t : State) → IsOpening opened → IsInRun opened s → onward rec s ≡ Goes t → GoesOn opened s t
-IsInRun-onward rec opened s t opens is goes = IsInRun-kept rec opened s t opens.fits.layout.limit is goes
+IsInRun-onward rec opened s t opens is goes = subst (IsKept opened s) goes (kept rec opened s opens.fits.layout.limit is)
+
+-- ---- states that fit
+
+fits_if : (b : Bool) (s t : State) → Fits s → Fits t → Fits (if b then s else t)
+fits_if true s t first second = first
+fits_if false s t first second = second
+
+module _ (s : State) (fits : Fits s) where
+  fits_brk : (address : ℕ) → Fits (brk_done s address)
+  fits_brk address = Fits-grows s (brk_done s address) fits (Grows-run s (brk_done s address) fits (HasHeap-brk s s address fits.layout.limit (own_heap s fits)) (end-brk s address (is_break s address)))
+
+  fits_bytes : (address : ℕ) (bytes : List ℕ) → Fits (record s { pages = set_bytes s.pages address bytes })
+  fits_bytes address bytes = Fits-same s (record s { pages = set_bytes s.pages address bytes }) fits refl refl (is_some-set_bytes s.pages address bytes)
+
+  fits_call : (call : Call) (bytes : List ℕ) → Fits (call_done s call bytes)
+  fits_call call bytes =
+      fits_if (is_outside call) (data_done s call bytes) (if call.number == brk_number then brk_done s (arg call 0) else s)
+      (fits_if (call.number == write_number) s (record s { pages = set_bytes s.pages (buffer call) bytes }) fits (fits_bytes (buffer call) bytes))
+      (fits_if (call.number == brk_number) (brk_done s (arg call 0)) s (fits_brk (arg call 0)) fits)
+
+  abbrev FitsNext : Onward → Type 0
+  FitsNext (Goes t) = Fits t
+  FitsNext (Breaks kind) = Unit {0}
+
+  fits_answered : (entry : CallEntry) → Fits (answered s entry)
+  fits_answered entry = Fits-same (call_done s (call_of s) entry.bytes) (answered s entry) (fits_call (call_of s) entry.bytes) refl refl (λ page. refl)
+
+  fits_matched : (entry : CallEntry) (diff : Option CallDiff) → FitsNext (matched s entry diff)
+  fits_matched entry None = fits_answered entry
+  fits_matched entry (Some diff) = tt
+
+  fits_called : (ask : Ask) (entry : Option CallEntry) → FitsNext (called s ask entry)
+  fits_called ask None = tt
+  fits_called ask (Some entry) = fits_matched entry (first_difference entry ask)
+
+  fits_asked : (rec : Recording) (ask : Option Ask) → FitsNext (asked rec s ask)
+  fits_asked rec None = Fits-same s (exited s) fits refl refl (λ page. refl)
+  fits_asked rec (Some ask) = fits_called ask (slice_get rec.calls s.next_call)
+
+  fits_stepped : (rec : Recording) (next : Next) → step s ≡ next → FitsNext (stepped rec s next)
+  fits_stepped rec (Stepped t) steps = Fits-step s t fits steps
+  fits_stepped rec Called steps = fits_asked rec (ask_of s)
+  fits_stepped rec (Trapped number) steps = tt
+
+  fits_in : (rec : Recording) (status : RunState) → FitsNext (onward_in rec s status)
+  fits_in rec Running = fits_stepped rec (step s) refl
+  fits_in rec (Exited code) = tt
+
+  fits_next : (rec : Recording) → FitsNext (onward rec s)
+  unfolding onward
+  fits_next rec = fits_in rec s.status
 
 -- an instruction of a replay leads from a state that fits to one that fits
-pub Fits-onward : (rec : Recording) (s t : State) → IsState s → Fits s → onward rec s ≡ Goes t → Fits t
-Fits-onward rec s t is fits goes =
-    let next = IsInRun-kept rec s s t fits.layout.limit (own_run s is fits) goes in
-    Fits-grows s t fits (Grows-run s t fits next.in_run next.end_grows)
+pub Fits-onward : (rec : Recording) (s t : State) → Fits s → onward rec s ≡ Goes t → Fits t
+Fits-onward rec s t fits goes = subst (FitsNext s fits) goes (fits_next s fits rec)

@@ -7,3 +7,9 @@ pub mod LoadedSteps
 pub mod Opens
 pub mod OpeningBytes
 pub mod States
+pub mod Answered
+pub mod Marked
+pub mod Calls
+mod Copied
+mod Asked
+mod Came

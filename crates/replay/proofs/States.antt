@@ -2,6 +2,7 @@
 use Rattle.std.specs.Prelude.{if◌then◌else◌, ◌==◌, slice_get, slice_index}
 use Rattle.std.specs.List.{All, AllByRecursion}
 use Rattle.std.proofs.Common.{◌≡◌, ℕ, zero, suc, ◌+◌, ◌-◌, ◌/◌, ◌^◌, ◌<◌, ◌≤◌, Bool, true, false, List, [], ◌∷◌, length, Option, Some, None, refl, sym, ap, subst, ◌∙◌, arith}
+use Rattle.std.proofs.lemmas.Option.{slice_get_within}
 use Rattle.sl_base.specs.declared.call.Call.{Call}
 use Rattle.sl_base.specs.World.{write_number}
 use Rattle.sl_model.specs.declared.run_state.RunState.{RunState}
@@ -26,19 +27,13 @@ use Rattle.replay.proofs.InRun.{new_end}
 
 -- ---- a recorded call
 
-record IsEntryAt (calls : List CallEntry) (i : ℕ) (entry : CallEntry) : Type 0 where
-  within : i < length calls
-  rules : IsCallEntry entry
-  bytes : HasBytes entry
-
-entry_at : (calls : List CallEntry) (i : ℕ) (entry : CallEntry) → AllByRecursion IsCallEntry calls → AllByRecursion HasBytes calls → slice_get calls i ≡ Some entry → IsEntryAt calls i entry
-entry_at [] i entry each bytes is = absurd cc
-entry_at (c ∷ cs) zero entry each bytes is =
+-- what holds of each recorded call holds of one of them
+pub each_at : (P : CallEntry → Type 0) (calls : List CallEntry) (i : ℕ) (entry : CallEntry) → AllByRecursion P calls → slice_get calls i ≡ Some entry → P entry
+each_at P [] i entry each is = absurd cc
+each_at P (c ∷ cs) zero entry each is =
     let same : c ≡ entry = cc in
-    record { within = omega arith; rules = subst IsCallEntry same each.0; bytes = subst HasBytes same bytes.0 }
-entry_at (c ∷ cs) (suc i) entry each bytes is =
-    let rest = entry_at cs i entry each.1 bytes.1 is in
-    record { within = omega (arith, rest.within); rules = rest.rules; bytes = rest.bytes }
+    subst P same each.0
+each_at P (c ∷ cs) (suc i) entry each is = each_at P cs i entry each.1 is
 
 -- ---- what a call changes beside a0 and the next place
 
@@ -130,16 +125,16 @@ module _ (s : State) (is : IsState s) (fits : Fits s) where
     LeadsTo (Breaks kind) = Unit {0}
 
     module _ (rec : Recording) (value : IsRecordingValue rec) (bytes : AllByRecursion HasBytes rec.calls) where
-      to_matched : (entry : CallEntry) (diff : Option CallDiff) → IsEntryAt rec.calls s.next_call entry → LeadsTo (matched s entry diff)
+      to_matched : (entry : CallEntry) (diff : Option CallDiff) → slice_get rec.calls s.next_call ≡ Some entry → LeadsTo (matched s entry diff)
       to_matched entry None at =
-          let within = at.within in
+          let within = slice_get_within rec.calls s.next_call entry at in
           let few = value.number_of_calls in
-          state_answered entry at.rules at.bytes (omega arith)
+          state_answered entry (each_at IsCallEntry rec.calls s.next_call entry value.each_call at) (each_at HasBytes rec.calls s.next_call entry bytes at) (omega arith)
       to_matched entry (Some diff) at = tt
 
       to_called : (ask : Ask) (entry : Option CallEntry) → slice_get rec.calls s.next_call ≡ entry → LeadsTo (called s ask entry)
       to_called ask None found = tt
-      to_called ask (Some entry) found = to_matched entry (first_difference entry ask) (entry_at rec.calls s.next_call entry value.each_call bytes found)
+      to_called ask (Some entry) found = to_matched entry (first_difference entry ask) found
 
       to_asked : (ask : Option Ask) → LeadsTo (asked rec s ask)
       to_asked None = state_exited

@@ -1,12 +1,23 @@
 -- What one instruction of a replay comes to, for a machine and its memory.
-use Rattle.std.specs.Prelude.{◌≡◌, ◌+◌, ◌≤◌, ℕ, ⊤, Result, Ok, Err}
+use Rattle.std.specs.Prelude.{◌≡◌, ◌+◌, ◌^◌, ◌<◌, ◌≤◌, ℕ, ⊤, length, Result, Ok, Err}
+use Rattle.std.specs.List.{AllByRecursion}
 use Rattle.sl_base.specs.declared.refused.Refused.{Refused}
 use Rattle.sl_base.specs.declared.refused.Refused.TheVariants as refused
 use Rattle.call_log.specs.declared.breaks.BreakKind.{BreakKind}
+use Rattle.call_log.specs.declared.entry.CallEntry.{CallEntry}
+use Rattle.rec_format.specs.declared.recording.Recording.{Recording}
 use Rattle.page_frames.specs.MarkedPages.{MarkedPages}
 use Rattle.rv_machine.specs.declared.machine.Machine.{Machine}
 use Rattle.rv_machine.specs.Machine.{state_of}
 use Rattle.replay.specs.Run.{Onward, Goes, Breaks}
+
+-- what a replay needs of the calls of a recording: few of them, each with few bytes
+abbrev pub IsShort : CallEntry → Type 0
+IsShort entry = length entry.bytes ≤ 65536
+
+pub record HasCalls (rec : Recording) : Type 0 where
+  pub number : length rec.calls < 2 ^ 32
+  pub each : AllByRecursion IsShort rec.calls
 
 -- what came of an instruction: nothing that is told, a divergence, or want of memory
 abbrev pub Advance : Type 0

@@ -1,5 +1,5 @@
 -- System calls in a replay: what a program asks, and the state after an answer.
-use Rattle.std.specs.Prelude.{ℕ, ◌+◌, ◌-◌, ◌/◌, ◌==◌, ◌&&◌, ◌||◌, Bool, List, [], ◌∷◌, min, max, map, Option, Some, None, is_some, unwrap_or, slice_index, nat_le, if◌then◌else◌}
+use Rattle.std.specs.Prelude.{◌≡◌, ℕ, ◌+◌, ◌-◌, ◌/◌, ◌==◌, ◌&&◌, ◌||◌, Bool, List, [], ◌∷◌, min, max, map, Option, Some, None, is_some, unwrap_or, slice_index, nat_le, if◌then◌else◌}
 use Rattle.sl_base.specs.declared.call.Call.{Call}
 use Rattle.sl_base.specs.World.{read_number, write_number, getrandom_number, error_result}
 use Rattle.sl_model.specs.declared.run_state.RunState.TheVariants.{Exited}
@@ -8,6 +8,7 @@ use Rattle.sl_model.specs.State.{State, register}
 use Rattle.sl_model.specs.Step.{gone_to, after, put_register}
 use Rattle.call_log.specs.declared.ask.Ask.{Ask}
 use Rattle.call_log.specs.declared.entry.CallEntry.{CallEntry}
+use Rattle.call_log.specs.Differences.{first_difference}
 use Rattle.replay.specs.Opening.{round_up}
 use Rattle.sl_model.specs.Mapping.{map_pages}
 
@@ -101,6 +102,15 @@ ask_of s =
     let call = call_of s in
     if is_exit call then None else Some (ask_with s call (fixed_result s call))
 
+-- a recorded call does not differ from what was asked
+abbrev pub IsAnswerTo : Option Ask → CallEntry → Type 0
+IsAnswerTo None entry = ⊥
+IsAnswerTo (Some ask) entry = first_difference entry ask ≡ None
+
+-- a recorded call does not differ from what the program asks
+abbrev pub IsDue : State → CallEntry → Type 0
+IsDue s entry = IsAnswerTo (ask_of s) entry
+
 -- ---- the state after a call
 
 abbrev pub exited : State → State
@@ -124,3 +134,8 @@ answered s entry =
     let done = call_done s (call_of s) entry.bytes in
     let t = gone_to (put_register done 10 entry.result) (after s) in
     record t { next_call = s.next_call + 1 }
+
+-- a state with a call's result in a0, behind the call, which has used one entry
+abbrev pub moved_on : State → ℕ → State
+moved_on s result =
+    record (gone_to (put_register s 10 result) (after s)) { next_call = s.next_call + 1 }

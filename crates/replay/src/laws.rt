@@ -28,5 +28,5 @@ pub fn replays_lead_to_states()
 /// An instruction of a replay leads from a state that fits its layout to one that fits it, also where it is a call.
 pub fn replays_keep_the_layout()
     ensures { (rec : Recording) (s t : State)
-        → IsState s → Fits s → onward rec s ≡ Goes t → Fits t }
+        → Fits s → onward rec s ≡ Goes t → Fits t }
 {}

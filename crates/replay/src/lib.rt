@@ -2,6 +2,9 @@
 #![tactic(auto)]
 
 mod advancing;
+mod answering;
+mod asking;
+mod copying;
 mod ending;
 mod heap;
 mod laws;
@@ -9,6 +12,8 @@ mod loading;
 mod stack;
 
 pub use advancing::advance_one;
+pub use answering::{apply, exit};
+pub use asking::{ask, call_of, is_exit};
 pub use ending::end_break;
 pub use laws::{programs_open, replays_keep_the_layout, replays_lead_to_states};
 pub use loading::load;

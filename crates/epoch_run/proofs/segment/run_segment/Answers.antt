@@ -2,7 +2,7 @@ use Rattle.std.proofs.Common.{◌+◌, sym, ◌∙◌}
 use Rattle.std.proofs.lemmas.Result.{err_from_is_err_and}
 use Rattle.checkpoints.specs.RecordedRun.{opened_of}
 use Rattle.epoch_run.specs.Plans.{tracers_of, state_in}
-use Rattle.epoch_run.proofs.OneSegment.{of_plan, starts_below, segment_steps, segment_stops, segment_closes, segment_records, segment_state}
+use Rattle.epoch_run.proofs.OneSegment.{of_plan, starts_below, starts_fitting, segment_steps, segment_stops, segment_closes, segment_records, segment_state}
 use Rattle.epoch_run.proofs.segment.run_segment.Goals as goal
 
 pub run_to-requires-clause-from : goal.run_to-requires-clause-from
@@ -10,6 +10,12 @@ run_to-requires-clause-from g c =
     let plan = c.args.plan.now in
     let is = of_plan plan c.args.j c.args.worker.now c.recorded_count-upto.result c.requires.within c.requires.at c.recorded_count-upto.ensures.count in
     starts_below plan.checkpoints.rec (opened_of plan.checkpoints) c.args.j (state_in c.args.worker.now) c.recorded_count-upto.result is
+
+pub run_to-requires-clause-fits : goal.run_to-requires-clause-fits
+run_to-requires-clause-fits g c =
+    let plan = c.args.plan.now in
+    let is = of_plan plan c.args.j c.args.worker.now c.recorded_count-upto.result c.requires.within c.requires.at c.recorded_count-upto.ensures.count in
+    starts_fitting plan.checkpoints.rec (opened_of plan.checkpoints) c.args.j (state_in c.args.worker.now) c.recorded_count-upto.result is
 
 pub returns-in_err-run_to-clause-first : goal.returns-in_err-run_to-clause-first
 returns-in_err-run_to-clause-first g c =

@@ -1,4 +1,5 @@
 use Rattle.std.proofs.Common.{arith}
+use Rattle.replay.proofs.Calls.{HasCalls-value}
 use Rattle.epoch_run.specs.Plans.{tracers_of}
 use Rattle.epoch_run.proofs.Stretch.{goes_on_at, breaks_off}
 use Rattle.epoch_run.proofs.segment.run_to.Goals as goal
@@ -16,6 +17,10 @@ loop-done-preserved g c =
     record {
       under_way = goes_on_at c.args.plan.now.checkpoints.rec (tracers_of c.args.plan.now) _ _ _ _ c.loop-done.done c.args.upto _ c.loop-done.records.items _ (omega arith) c.in_default.ensures.onward c.in_ok-fire.ensures kept.under_way;
       count = omega (arith, c.in_default.ensures.count, kept.count);
+      fits = c.in_default.ensures.fits;
       from = omega (arith, kept.from);
       steps = omega (arith, kept.steps, c.in_default.ensures.counted);
     }
+
+pub advance_one-requires-clause-calls : goal.advance_one-requires-clause-calls
+advance_one-requires-clause-calls g c = HasCalls-value c.args.plan.now.checkpoints.rec c.args.plan.now.checkpoints.is_value

@@ -1,4 +1,5 @@
 use Rattle.std.proofs.Common.{◌≡◌, ◌+◌, ◌-◌, ◌≤◌}
+use Rattle.sl_model.specs.State.{Fits}
 use Rattle.epoch_run.specs.Segments.{IsUnderWay}
 use Rattle.epoch_run.specs.Plans.{tracers_of, state_in}
 use Rattle.epoch_run.proofs.segment.run_to.Given as goal
@@ -7,6 +8,7 @@ abbrev pub invariant-loop-done : goal.invariant-loop-done
 invariant-loop-done g l = record {
   under_way : IsUnderWay l.plan.checkpoints.rec (tracers_of l.plan) (state_in l.fn.worker) (l.upto - l.fn.worker.m.count) (state_in l.worker) (l.upto - l.done) l.fn.records.items l.records.items;
   count : l.worker.m.count ≡ l.done;
+  fits : Fits (state_in l.worker);
   from : l.fn.worker.m.count ≤ l.done;
   steps : l.steps + l.fn.worker.m.count ≤ l.fn.steps + l.done;
 }

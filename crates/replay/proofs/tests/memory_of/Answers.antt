@@ -1,7 +1,0 @@
-use Rattle.std.proofs.Common.{List, ℕ, arith}
-use Rattle.std.specs.Ordering.{nat_cmp}
-use Rattle.std.specs.FinMap.{len-empty}
-use Rattle.replay.proofs.tests.memory_of.Goals as goal
-
-pub map_page-requires-clause-few : goal.map_page-requires-clause-few
-map_page-requires-clause-few c = rw c.in_ok-frames.ensures.pages (omega (arith, len-empty nat_cmp (List ℕ)))
