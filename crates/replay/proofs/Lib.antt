@@ -6,6 +6,7 @@ pub mod OpeningStack
 pub mod LoadedSteps
 pub mod Opens
 pub mod OpeningBytes
+mod OpeningRows
 pub mod States
 pub mod Answered
 pub mod Marked

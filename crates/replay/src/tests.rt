@@ -3,18 +3,22 @@
 ghost use Rattle.std.specs.Prelude.{◌≡◌, ◌<◌, IfOk};
 ghost use Rattle.std.specs.List.{AllByRecursion};
 ghost use Rattle.sl_model.specs.State.{Fits};
+ghost use Rattle.elf_image.specs.Loadable.{IsLoadable};
+ghost use Rattle.rec_format.specs.Rules.{AreArguments};
 ghost use Rattle.rv_machine.specs.Machine.{state_of};
 ghost use Rattle.replay.specs.Advance.{IsShort};
 
 use crate::{advance_one, end_break, load};
 use call_log::{BreakKind, CallEntry, End};
-use elf_image::flat_image;
+use elf_image::{Image, flat_image, read_image};
 use page_frames::Frames;
 use rec_format::{CheckpointData, Recording};
 use rv_machine::Machine;
 use sl_base::{Call, Memory, Refused, Seq, Steps};
+use sl_model::Bus;
 use std::alloc::Global;
 use std::marker::Brand;
+use std::process::Abort;
 use std::sync::ledger::{Blank, Ledger};
 use std::test::Fail;
 
@@ -473,5 +477,112 @@ fn what_calls_leave(rt: HostRuntime) -> Result<(), Fail> {
             "{program:?} {calls:?}"
         );
     }
+    Ok(())
+}
+
+/// The word at an address, and what a program finds there.
+fn holds(rt: &impl Abort, frames: &Frames, rows: &[(u32, Option<u32>)]) {
+    for (addr, word) in rows {
+        assert_eq!(rt; frames.load(*addr, 4), *word, "{addr}");
+    }
+}
+
+#[test]
+fn loads_a_program(rt: HostRuntime) -> Result<(), Fail> {
+    let alloc = rt.alloc();
+    let image = flat_image(alloc, 0x10ffe, &[0x13, 0x05, 0x50, 0x00])?;
+    let (m, frames) = load(alloc, &image, &[])?;
+    assert_eq!(rt;
+        (m.pc, m.x[2], m.count, m.next_call),
+        (0x10ffe, 0x7fff_ffe0, 0, 0)
+    );
+    assert_eq!(rt;
+        (m.brk, m.brk_end, m.layout.brk_start),
+        (0x12000, 0x12000, 0x12000)
+    );
+    assert_eq!(rt; m.layout.heap_limit, 0x0101_2000);
+    assert_eq!(rt; frames.dirty_len(), 0);
+    let rows = [
+        (0x10ffe, Some(0x0050_0513)),
+        (0x11ffc, Some(0)),
+        (0x12000, None),
+        (0x0fffc, None),
+        (0x7fef_fffc, None),
+        (0x7ff0_0000, Some(0)),
+        (0x7fff_ffe0, Some(0)),
+        (0x7fff_fffc, Some(0)),
+        (0x8000_0000, None),
+    ];
+    holds(&rt, &frames, &rows);
+    Ok(())
+}
+
+/// An ELF32 file, in words: four bytes at 0x10000 with zeros behind them up to 0x11ffc, and eight bytes from there on.
+const TWO_SEGMENTS: [u32; 32] = [
+    0x464c457f, 0x00010101, 0x00000000, 0x00000000, 0x00f30002, 0x00000001, 0x00010000, 0x00000034,
+    0x00000000, 0x00000000, 0x00200034, 0x00000002, 0x00000000, 0x00000001, 0x00000074, 0x00010000,
+    0x00010000, 0x00000004, 0x00001ffc, 0x00000005, 0x00000004, 0x00000001, 0x00000078, 0x00011ffc,
+    0x00011ffc, 0x00000008, 0x00000008, 0x00000006, 0x00000004, 0x00500513, 0x04030201, 0x08070605,
+];
+
+/// The bytes of some words, the lowest of each first.
+fn bytes_of(alloc: Global, words: &[u32]) -> Result<Vec<u8>, Memory> {
+    let mut bytes = Vec::new(alloc);
+    for word in words {
+        bytes.extend_from_slice(&word.to_le_bytes())?;
+    }
+    Ok(bytes)
+}
+
+/// The image of a file, where that is as short as the files of these tests are.
+fn image_of(alloc: Global, file: &[u8]) -> Result<Image, Fail>
+    ensures { IfOk result IsLoadable }
+{
+    if file.len() > 1000 {
+        return Err("a long file".into());
+    }
+    Ok(read_image(alloc, file)?)
+}
+
+/// The arguments `hi` and the empty one.
+fn two_arguments(alloc: Global) -> Result<Vec<Seq<u8>>, Memory>
+    ensures { IfOk result (λ args. AreArguments args.items) }
+{
+    let mut hi = Seq::new(alloc);
+    hi.push(b'h')?;
+    hi.push(b'i')?;
+    let mut args = Vec::new(alloc);
+    args.push(hi)?;
+    args.push(Seq::new(alloc))?;
+    Ok(args)
+}
+
+#[test]
+fn loads_segments_and_arguments(rt: HostRuntime) -> Result<(), Fail> {
+    let alloc = rt.alloc();
+    let file = bytes_of(alloc, &TWO_SEGMENTS)?;
+    let image = image_of(alloc, file.as_slice())?;
+    let args = two_arguments(alloc)?;
+    let (m, frames) = load(alloc, &image, args.as_slice())?;
+    assert_eq!(rt; (m.pc, m.x[2], m.x[10]), (0x10000, 0x7fff_ffd0, 0));
+    assert_eq!(rt; (m.brk, m.layout.heap_limit), (0x13000, 0x0101_3000));
+    let rows = [
+        (0x10000, Some(0x0050_0513)),
+        (0x10004, Some(0)),
+        (0x11ff8, Some(0)),
+        (0x11ffc, Some(0x0403_0201)),
+        (0x12000, Some(0x0807_0605)),
+        (0x12004, Some(0)),
+        (0x13000, None),
+        (0x7fff_ffcc, Some(0)),
+        (0x7fff_ffd0, Some(2)),
+        (0x7fff_ffd4, Some(0x7fff_fff0)),
+        (0x7fff_ffd8, Some(0x7fff_fff3)),
+        (0x7fff_ffdc, Some(0)),
+        (0x7fff_ffe8, Some(0)),
+        (0x7fff_fff0, Some(0x6968)),
+        (0x7fff_fff4, Some(0)),
+    ];
+    holds(&rt, &frames, &rows);
     Ok(())
 }
