@@ -15,6 +15,7 @@ mod WrittenHeader
 mod WrittenSegments
 mod WrittenSymbols
 mod WrittenImage
+mod SmallImage
 pub mod LoadedLaws
 pub mod Bytes
 pub mod ElfLaws

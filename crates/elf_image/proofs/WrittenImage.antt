@@ -28,7 +28,7 @@ use Rattle.elf_image.proofs.WrittenSymbols.{section_is, none_is, each_symbol, fi
 pub sections_fit : (image : Image) → IsWritable image → (layout_of image).sections + 120 < 2 ^ 32
 sections_fit image is = subst (λ (n : ℕ). n < 2 ^ 32) (length-written image) is.size
 
-all_of : {X : Type 0} (P : X → Type 0) (xs : List X) → AllByRecursion P xs → All P xs
+pub all_of : {X : Type 0} (P : X → Type 0) (xs : List X) → AllByRecursion P xs → All P xs
 all_of P [] each k d within = absurd (omega arith)
 all_of P (x ∷ xs) each zero d within = each.0
 all_of P (x ∷ xs) each (suc k) d within = all_of P xs each.1 k d (omega arith)

@@ -9,10 +9,7 @@ use crate::image::Image;
 pub fn symbol(image: &Image, name: &[u8]) -> Option<u32>
     ensures { result ≡ value_of name.now image.now.symbols }
 {
-    for symbol in image.symbols.as_slice() {
-        if symbol.name.as_slice() == name {
-            return Some(symbol.value);
-        }
-    }
-    None
+    let mut symbols = image.symbols.as_slice().iter();
+    let first = symbols.find(|symbol| symbol.name.as_slice() == name)?;
+    Some(first.value)
 }
