@@ -1,9 +1,10 @@
 -- The report: lines of seven fields, with commas between them.
-use Rattle.std.specs.Prelude.{ℕ, ◌+◌, ◌==◌, List, [], ◌∷◌, ◌++◌, map, codes, decimal, Option, Some, None, if◌then◌else◌}
+use Rattle.std.specs.Prelude.{ℕ, ◌+◌, ◌==◌, List, [], ◌∷◌, ◌++◌, length, map, codes, decimal, Option, Some, None, if◌then◌else◌}
 use Rattle.std.specs.List.{flat_map, join_with_byte}
 use Rattle.sl_base.specs.Text.{word_text}
 use Rattle.call_log.specs.declared.entry.End.{End}
 use Rattle.call_log.specs.declared.entry.End.TheVariants as end
+use Rattle.rec_format.specs.declared.recording.Recording.{Recording}
 use Rattle.report.specs.declared.run_end.RunEnd.{RunEnd}
 use Rattle.tracer_lang.specs.declared.record.Record.{Record}
 use Rattle.tracer_lang.specs.declared.record.TracerEnd.{TracerEnd}
@@ -111,6 +112,17 @@ regs_line x =
     ∷ []
     ∷ join_with_byte 32 (register_texts 0 x)
     ∷ [])
+
+-- what a check of a recording says: its recorded calls, its checkpoints before the end, and its end
+abbrev pub checked_line : Recording → List ℕ
+checked_line rec =
+    codes "checked "
+    ++ decimal (length rec.calls)
+    ++ codes " calls, "
+    ++ decimal (length rec.checkpoints)
+    ++ codes " checkpoints, end "
+    ++ decimal rec.last.count
+    ++ 10 ∷ []
 
 -- the report: the lines of the analyses, and how the run ended
 abbrev pub report : List ℕ → RunEnd → List ℕ

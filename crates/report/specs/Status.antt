@@ -24,7 +24,6 @@ refusal_code (refusal.RecordingBroken fault) = 4
 refusal_code (refusal.ImageBroken fault) = 5
 refusal_code (refusal.ReplayBroken first) = 8
 refusal_code (refusal.CheckpointDiffers first) = 9
-refusal_code refusal.NotBuilt = 15
 
 -- and after each ending
 abbrev pub code_of : Status → ℕ
@@ -138,7 +137,6 @@ refusal_line (refusal.ImageBroken fault) =
     ∷ [])
 refusal_line (refusal.ReplayBroken first) = break_line first.count first.kind
 refusal_line (refusal.CheckpointDiffers first) = break_line first.count first.kind
-refusal_line refusal.NotBuilt = line_of (codes "not built" ∷ [])
 
 -- what stands on the second output, which is nothing after Ok
 abbrev pub fault_line : Status → List ℕ

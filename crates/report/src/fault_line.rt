@@ -254,7 +254,6 @@ fn write_refusal<O: Sink>(out: &mut O, why: &Refusal) -> Result<(), SinkFailed>
         Refusal::ReplayBroken(first) | Refusal::CheckpointDiffers(first) => {
             write_break(out, first.count, &first.kind)
         }
-        Refusal::NotBuilt => write_line(out, &[Text("not built")]),
     }
 }
 

@@ -23,8 +23,6 @@ pub enum Refusal {
     ReplayBroken(Break),
     /// The replay first differs from the recording at a checkpoint.
     CheckpointDiffers(Break),
-    /// What the recording asks for is not built yet.
-    NotBuilt,
 }
 
 /// How a command ended. Each ending but `Ok` has one line on the second output.
@@ -58,7 +56,6 @@ impl Refusal {
             Refusal::ImageBroken(_) => 5,
             Refusal::ReplayBroken(_) => 8,
             Refusal::CheckpointDiffers(_) => 9,
-            Refusal::NotBuilt => 15,
         }
     }
 }

@@ -88,7 +88,6 @@ fn refusals(rt: HostRuntime) -> Result<(), Fail> {
     let line = "sledge: checkpoint 1 differs at count 2, part 10, at 0x00000000: recorded \
                 0x00000006, replayed 0x00000005\n";
     assert!(rt; refuses(alloc, why, 9, line)?);
-    assert!(rt; refuses(alloc, Refusal::NotBuilt, 15, "sledge: not built\n")?);
     Ok(())
 }
 

@@ -1,11 +1,12 @@
-//! The report of a run.
+//! The texts of commands: the report of a run, and what a check says.
 
 ghost use Rattle.std.specs.Prelude.{◌≡◌, ◌++◌, IfOk, OnOk};
-ghost use Rattle.report.specs.Report.{all_lines, report};
+ghost use Rattle.report.specs.Report.{all_lines, report, checked_line};
 
 use crate::lines::{push_end_line, push_record_line, push_regs_line};
 use crate::run_end::RunEnd;
-use sl_base::Memory;
+use rec_format::Recording;
+use sl_base::{Memory, decimal_text};
 use std::alloc::{AllocError, Global};
 use tracer_lang::Record;
 
@@ -27,5 +28,20 @@ pub fn report_text(alloc: Global, records: &[Record], last: &RunEnd) -> Result<V
     push_all_lines(alloc, &mut out, records)?;
     push_end_line(&mut out, &last.end, last.count, last.pc)?;
     push_regs_line(alloc, &mut out, &last.x)?;
+    Ok(out)
+}
+
+/// What a check of a recording says: how many calls and checkpoints before the end it has, and the count of its end.
+pub fn checked_text(alloc: Global, rec: &Recording) -> Result<Vec<u8>, Memory>
+    ensures { IfOk result (λ text. text.items ≡ checked_line rec.now) }
+{
+    let mut out = Vec::new(alloc);
+    out.extend_from_slice(b"checked ")?;
+    out.extend_from_slice(decimal_text(rec.calls.len() as u64).as_bytes())?;
+    out.extend_from_slice(b" calls, ")?;
+    out.extend_from_slice(decimal_text(rec.checkpoints.len() as u64).as_bytes())?;
+    out.extend_from_slice(b" checkpoints, end ")?;
+    out.extend_from_slice(decimal_text(rec.last.count).as_bytes())?;
+    out.push(b'\n')?;
     Ok(out)
 }

@@ -1,30 +1,25 @@
 -- The report of a run, by what the run comes to.
-use Rattle.std.proofs.Common.{◌≡◌, ℕ, List, Option, Some, None, Ok, Err, refl, ap, ◌∙◌}
+use Rattle.std.proofs.Common.{◌≡◌, ℕ, List, [], ◌∷◌, Option, Some, None, Result, Ok, Err, refl, ap, ◌∙◌}
 use Rattle.std.specs.Option.{unwrap_or}
+use Rattle.sl_base.specs.declared.refused.Refused.{Refused}
+use Rattle.sl_base.specs.declared.refused.Refused.TheVariants as refused
+use Rattle.sl_base.specs.Refusals.{Fails}
 use Rattle.sl_model.specs.State.{State}
 use Rattle.call_log.specs.declared.breaks.Break.{Break}
 use Rattle.rec_format.specs.declared.recording.Recording.{Recording}
 use Rattle.tracer_lang.specs.declared.record.Record.{Record}
 use Rattle.replay.specs.Breaks.{first_break}
-use Rattle.epoch_run.specs.Records.{emit_at, records}
+use Rattle.epoch_run.specs.Records.{Tracers, emit_at, records}
 use Rattle.epoch_run.specs.EpochLaws.{IsAtEnd, ComesToTheEnd}
-use Rattle.report.specs.declared.run_end.RunEnd.{RunEnd}
+use Rattle.report.specs.declared.status.Refusal.{Refusal}
 use Rattle.report.specs.RunEnd.{recorded_end}
 use Rattle.report.specs.Report.{all_lines, report}
 use Rattle.sledge_top.specs.Runs.{run_value, run_of}
-use Rattle.sledge_top.specs.Answer.{A0, traced, replayed, last_state, run_end, broken_by}
+use Rattle.sledge_top.specs.Answer.{◌>>=◌, A0, refused_by, replayed, traced, replayed_alone, last_state, run_end, broken_by}
 
-broke : (break : Option Break) (left : List Record) (first : Break) → run_value break left ≡ Err first → break ≡ Some first
-broke None left first is = absurd cc
-broke (Some b) left first is = cc
-
-ran : (break : Option Break) (left all : List Record) → run_value break left ≡ Ok all → (break ≡ None) × (left ≡ all)
-ran None left all is = (refl, cc)
-ran (Some b) left all is = absurd cc
-
-pub traced_broke : (rec : Recording) (address : ℕ) (opened : State) (first : Break) → run_of rec (emit_at address A0) opened ≡ Err first → traced rec address opened ≡ Err (broken_by first first.kind)
-unfolding traced
-traced_broke rec address opened first is = ap (replayed rec (emit_at address A0) opened) (broke (first_break rec opened) (records rec (emit_at address A0) opened) first is)
+-- the records of a run, or how the command is refused
+abbrev pub records_or_refusal : Recording → Tracers → State → Result (List Record) Refusal
+records_or_refusal rec tracers opened = refused_by (λ first. broken_by first first.kind) (run_of rec tracers opened)
 
 -- the end of a run that comes to the recorded end
 same_end : (rec : Recording) (last : State) → IsAtEnd rec last → run_end rec last ≡ recorded_end rec
@@ -33,14 +28,29 @@ same_end rec last at =
     ∙ ap (λ (n : ℕ). record { end = rec.end; count = rec.last.count; pc = n; x = last.x }) at.pc
     ∙ ap (λ (x : List ℕ). record { end = rec.end; count = rec.last.count; pc = rec.last.pc; x = x }) at.x
 
-pub traced_ran : (rec : Recording) (address : ℕ) (opened : State) (all : List Record) → ComesToTheEnd rec opened → run_of rec (emit_at address A0) opened ≡ Ok all
-    → traced rec address opened ≡ Ok (report (all_lines 1 all) (recorded_end rec))
+ends_so : (rec : Recording) (opened : State) → ComesToTheEnd rec opened → first_break rec opened ≡ None → run_end rec (last_state rec opened) ≡ recorded_end rec
+ends_so rec opened comes none =
+    let end = comes none in
+    ap (λ (s : Option State). run_end rec (unwrap_or s opened)) end.1 ∙ same_end rec end.0 end.2
+
+came : (rec : Recording) (opened : State) (lines : List Record → List ℕ) (left : List Record) (break : Option Break) → (break ≡ None → run_end rec (last_state rec opened) ≡ recorded_end rec)
+    → replayed rec opened (lines left) break ≡ (refused_by (λ first. broken_by first first.kind) (run_value break left) >>= λ all. Ok (report (lines all) (recorded_end rec)))
+came rec opened lines left None ends = ap (λ end. Ok (report (lines left) end)) (ends refl)
+came rec opened lines left (Some first) ends = refl
+
+pub traced_is : (rec : Recording) (address : ℕ) (opened : State) → ComesToTheEnd rec opened
+    → traced rec address opened ≡ (records_or_refusal rec (emit_at address A0) opened >>= λ all. Ok (report (all_lines 1 all) (recorded_end rec)))
 unfolding traced
-traced_ran rec address opened all comes is =
-    let tracers = emit_at address A0 in
-    let both = ran (first_break rec opened) (records rec tracers opened) all is in
-    let end = comes both.0 in
-    let last : State = end.0 in
-    let there : run_end rec (last_state rec opened) ≡ recorded_end rec = ap (λ (s : Option State). run_end rec (unwrap_or s opened)) end.1 ∙ same_end rec last end.2 in
-    ap (replayed rec tracers opened) both.0 ∙ ap (λ (r : List Record). Ok (report (all_lines 1 r) (run_end rec (last_state rec opened)))) both.1
-    ∙ ap (λ (e : RunEnd). Ok (report (all_lines 1 all) e)) there
+traced_is rec address opened comes =
+    came rec opened (all_lines 1) (records rec (emit_at address A0) opened) (first_break rec opened) (ends_so rec opened comes)
+
+pub replayed_alone_is : (rec : Recording) (tracers : Tracers) (opened : State) → ComesToTheEnd rec opened
+    → replayed_alone rec opened ≡ (records_or_refusal rec tracers opened >>= λ all. Ok (report [] (recorded_end rec)))
+unfolding replayed_alone
+replayed_alone_is rec tracers opened comes =
+    came rec opened (λ all. []) (records rec tracers opened) (first_break rec opened) (ends_so rec opened comes)
+
+-- what refuses a part refuses the whole
+pub fails_on : {A B : Type 0} (why : Refused Refusal) (part : Result A Refusal) (f : A → Result B Refusal) → Fails why part → Fails why (part >>= f)
+fails_on refused.Memory part f fails = tt
+fails_on (refused.Fault why) part f fails = ap (λ p. p >>= f) fails

@@ -21,8 +21,8 @@ use Rattle.epoch_run.specs.Records.{Tracers, emit_at, records}
 use Rattle.report.specs.declared.run_end.RunEnd.{RunEnd}
 use Rattle.report.specs.declared.status.Refusal.{Refusal}
 use Rattle.report.specs.declared.status.Refusal.TheVariants as refusal
-use Rattle.report.specs.Report.{all_lines, report}
-use Rattle.cli_words.specs.Orders.{Order, TraceOptions, TraceAt, Record, order_of}
+use Rattle.report.specs.Report.{all_lines, report, checked_line}
+use Rattle.cli_words.specs.Orders.{Order, TraceOptions, TraceAt, Replay, Check, Record, order_of}
 use Rattle.sledge_top.specs.Done.{Done, only_text}
 
 infixl 10 ◌>>=◌
@@ -50,7 +50,7 @@ within limit name (Some bytes) =
 abbrev pub file_of : Files → List ℕ → ℕ → Result (List ℕ) Refusal
 file_of files name limit = within limit name (get files name)
 
--- ---- the command that traces
+-- ---- recordings
 
 -- the recording that bytes spell
 abbrev pub recording_of : List ℕ → Result Recording Refusal
@@ -63,13 +63,19 @@ image_in rec = if rec.kind == 0 then flat_image rec.load_addr rec.image else elf
 abbrev pub image_of : Recording → Result Image Refusal
 image_of rec = refused_by refusal.ImageBroken (image_in rec)
 
--- the recordings that are replayed so far are those without recorded calls
-abbrev pub has_no_calls : Recording → Bool
-has_no_calls rec = length rec.calls == 0
+-- a recording and its image, from the bytes of a file
+abbrev pub recorded : List ℕ → Result (Recording × Image) Refusal
+recorded bytes = do
+  rec ← recording_of bytes
+  image ← image_of rec
+  Ok (rec, image)
 
--- the register that is recorded: a0
-abbrev pub A0 : ℕ
-A0 = 10
+abbrev pub recorded_in : Files → List ℕ → Result (Recording × Image) Refusal
+recorded_in files name = do
+  bytes ← file_of files name RECORDING_LIMIT
+  recorded bytes
+
+-- ---- replays
 
 -- the state at the recorded end: a replay that does not break comes to it
 abbrev pub last_state : Recording → State → State
@@ -84,32 +90,47 @@ broken_by first (kind.CheckpointDiffers index part address recorded replayed) =
     refusal.CheckpointDiffers first
 broken_by first other = refusal.ReplayBroken first
 
--- The report of a recording that is replayed from its opening state, where it does not break: the
--- lines of the analysis `all` over what the tracers leave, and the end of the run.
-abbrev pub replayed : Recording → Tracers → State → Option Break → Result (List ℕ) Refusal
-replayed rec tracers opened (Some first) = Err (broken_by first first.kind)
-replayed rec tracers opened None =
-    Ok (report (all_lines 1 (records rec tracers opened)) (run_end rec (last_state rec opened)))
+-- the report of a recording that is replayed from its opening state, where it does not break: these
+-- lines of analyses, and the end of the run
+abbrev pub replayed : Recording → State → List ℕ → Option Break → Result (List ℕ) Refusal
+replayed rec opened lines (Some first) = Err (broken_by first first.kind)
+replayed rec opened lines None = Ok (report lines (run_end rec (last_state rec opened)))
 
+-- the register that is recorded: a0
+abbrev pub A0 : ℕ
+A0 = 10
+
+-- with the analysis `all` over what the tracers leave
 unfoldable pub traced : Recording → ℕ → State → Result (List ℕ) Refusal
-traced rec address opened = replayed rec (emit_at address A0) opened (first_break rec opened)
+traced rec address opened =
+    replayed rec opened (all_lines 1 (records rec (emit_at address A0) opened))
+    (first_break rec opened)
 
-abbrev pub report_of : Recording → Image → ℕ → Result (List ℕ) Refusal
-report_of rec image address =
-    if has_no_calls rec then traced rec address (opening image rec.args) else Err refusal.NotBuilt
+-- without an analysis
+unfoldable pub replayed_alone : Recording → State → Result (List ℕ) Refusal
+replayed_alone rec opened = replayed rec opened [] (first_break rec opened)
 
--- the report for the bytes of a recording
-abbrev pub report_for : List ℕ → ℕ → Result (List ℕ) Refusal
-report_for bytes address = do
-  rec ← recording_of bytes
-  image ← image_of rec
-  report_of rec image address
+-- ---- commands
 
+-- `trace RECORDING at HEX`
 abbrev pub trace_at : Files → List ℕ → ℕ → Result Done Refusal
-trace_at files recording address = do
-  bytes ← file_of files recording RECORDING_LIMIT
-  text ← report_for bytes address
+trace_at files name address = do
+  both ← recorded_in files name
+  text ← traced both.0 address (opening both.1 both.0.args)
   Ok (only_text text)
+
+-- `replay RECORDING`
+abbrev pub replay : Files → List ℕ → Result Done Refusal
+replay files name = do
+  both ← recorded_in files name
+  text ← replayed_alone both.0 (opening both.1 both.0.args)
+  Ok (only_text text)
+
+-- `check RECORDING`
+abbrev pub check : Files → List ℕ → Result Done Refusal
+check files name = do
+  both ← recorded_in files name
+  Ok (only_text (checked_line both.0))
 
 -- ---- all commands
 
@@ -124,6 +145,8 @@ is_plain_trace options = options.workers == 1 && is_all options.analyses
 -- the rows that are built so far; words of the others name no command
 abbrev pub is_built : Order → Bool
 is_built (TraceAt recording address options) = is_plain_trace options
+is_built (Replay recording) = true
+is_built (Check recording) = true
 is_built other = false
 
 abbrev pub where_built : Order → Option Order
@@ -136,6 +159,8 @@ named_by words = option_and_then where_built (order_of words)
 -- what a command comes to
 abbrev pub done_by : Files → Order → Result Done Refusal
 done_by files (TraceAt recording address options) = trace_at files recording address
+done_by files (Replay recording) = replay files recording
+done_by files (Check recording) = check files recording
 done_by files other = Err refusal.Usage
 
 abbrev pub ordered : Files → Option Order → Result Done Refusal

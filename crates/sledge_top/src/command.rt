@@ -13,7 +13,7 @@ ghost use Rattle.sledge_top.specs.Views.{done_view, Comes};
 
 use crate::done::{Done, finish};
 use crate::failure::Failure;
-use crate::trace::trace_at;
+use crate::trace::{check, replay, trace_at};
 use cli_words::{Order, TraceOptions, read_words};
 use report::{Refusal, Status, write_fault};
 use sl_base::{Gate, Refused, Sink, Store, World};
@@ -61,6 +61,8 @@ fn done_by<'a, S: Store>(
             address,
             options,
         } if is_plain_trace(options) => trace_at(alloc, recording, *address, options.epochs, store),
+        Order::Replay { recording } => replay(alloc, recording, store),
+        Order::Check { recording } => check(alloc, recording, store),
         _ => Err(Failure::Refused(Refusal::Usage)),
     }
 }

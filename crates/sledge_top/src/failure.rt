@@ -1,7 +1,7 @@
 //! Why a part of a command gave nothing.
 
 use report::Refusal;
-use sl_base::Refused;
+use sl_base::{Memory, Refused};
 use std::alloc::AllocError;
 
 /// Why a part of a command gave nothing.
@@ -26,6 +26,17 @@ impl From<Refused<Refusal>> for Failure {
             Refused::Fault(why) => Failure::Refused(why),
             Refused::Memory => Failure::Memory,
         }
+    }
+}
+
+impl From<Memory> for Failure {
+    ghost use Rattle.std.specs.Prelude.{◌≡◌};
+    ghost use Rattle.sledge_top.specs.declared.failure.Failure.TheVariants.{Memory as out_of_memory};
+
+    ghost from_gives = { λ _ e. e ≡ out_of_memory };
+
+    fn from(_error: Memory) -> Failure {
+        Failure::Memory
     }
 }
 

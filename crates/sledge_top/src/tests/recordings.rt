@@ -68,6 +68,9 @@ fn register(number: u32, registers: &str) -> u32 {
     value
 }
 
+/// What stands among registers for the index of the next call.
+const CALL_INDEX: u32 = 32;
+
 /// Adds a checkpoint by its count, its program counter, the number of its pages and its registers.
 fn push_checkpoint(
     out: &mut Vec<u8>,
@@ -82,7 +85,8 @@ fn push_checkpoint(
     for number in 1..32 {
         push_word(out, register(number, registers))?;
     }
-    push_words(out, "11000 11000 0")?;
+    push_words(out, "11000 11000")?;
+    push_word(out, register(CALL_INDEX, registers))?;
     push_words(out, pages)
 }
 
@@ -108,7 +112,8 @@ fn push_line(out: &mut Vec<u8>, line: &str) -> Result<(), Fail> {
 /// The bytes of a recipe, a line for each part of a recording. Numbers are hexadecimal.
 ///
 /// `words W ..` adds numbers of four bytes and `bytes B ..` bytes, `page NUMBER OFFSET B ..` a page that is zeros but for
-/// these bytes, and `at COUNT PC PAGES R=VALUE ..` a checkpoint whose other registers are those of the opening state.
+/// these bytes, and `at COUNT PC PAGES R=VALUE ..` a checkpoint whose other registers are those of the opening state. There
+/// `20=1` is the index of the next call.
 pub fn recording(alloc: Global, recipe: &str) -> Result<Vec<u8>, Fail> {
     let mut bytes = b"SLDGREC1".to_vec(alloc)?;
     for line in recipe.lines() {

@@ -56,11 +56,31 @@ end,exited,3,,0x0001000c,,0x7ffffff0
 regs,x,,,,,x2=0x7fffffd0 x10=0x7ffffff0 x17=0x0000005d
 ";
 
-/// With a recorded call of getrandom.
-const CALLS: &str = "\
+/// With a recorded call that it does not make.
+const UNMADE_CALL: &str = "\
 words 0 10000 c 00500513 05d00893 73 0 1 116 0 0 0 0 0 0 0 0 0
 words 0 5
 at 3 1000c 0 a=5 11=5d
+";
+
+/// Asks for no random bytes, which fails, and exits with the result.
+const CALL: &str = "\
+words 0 10000 10 11600893 73 05d00893 73 0 1 116 0 0 0 0 0 0 fffffffb 0 0
+words 0 fffffffb
+at 4 10010 0 a=fffffffb 11=5d 20=1
+";
+
+const CALL_REPORT: &str = "0 \
+1,all,2,0,0x00010008,Done,0xfffffffb
+end,exited,4,,0x00010010,,0xfffffffb
+regs,x,,,,,x2=0x7fffffe0 x10=0xfffffffb x17=0x0000005d
+";
+
+/// The same with another number recorded.
+const OTHER_CALL: &str = "\
+words 0 10000 10 11600893 73 05d00893 73 0 1 3f 0 0 0 0 0 0 fffffffb 0 0
+words 0 fffffffb
+at 4 10010 0 a=fffffffb 11=5d 20=1
 ";
 
 /// Adds 3 to a0 a thousand times, in a loop with a jump over an instruction, and exits.
@@ -134,7 +154,17 @@ fn reports(rt: HostRuntime) -> Result<(), Fail> {
             "5 sledge: image broken at 18: Machine\n",
         ),
         (ARGUMENT, "trace a.rec at 10008", ARGUMENT_REPORT),
-        (CALLS, "trace a.rec at 10008", "15 sledge: not built\n"),
+        (
+            UNMADE_CALL,
+            "trace a.rec at 10008",
+            "8 sledge: replay broken at count 3: call 0 is left\n",
+        ),
+        (CALL, "trace a.rec at 10008", CALL_REPORT),
+        (
+            OTHER_CALL,
+            "trace a.rec at 10008",
+            "8 sledge: replay broken at count 1: call 0 field 0: recorded 0x0000003f, due 0x00000116\n",
+        ),
         (LOOPS, "trace a.rec at 10018", LOOPS_REPORT),
         (
             ILLEGAL,
@@ -150,6 +180,51 @@ fn reports(rt: HostRuntime) -> Result<(), Fail> {
             STORES,
             "trace a.rec at 10004",
             "0 1,all,1,0,0x00010004,Done,0x00000000\nend,trapped,2,,0x00010008,,0x00000003\nregs,x,,,,,x2=0x7fffffe0 x5=0x00010000\n",
+        ),
+    ] {
+        let bytes = recording(alloc, recipe)?;
+        assert!(rt;
+            tells(&rt, alloc, &bytes, words, text)?,
+            "{words} of {recipe}"
+        );
+    }
+    Ok(())
+}
+
+/// Without an analysis, and without a replay.
+#[test]
+fn replays_and_checks(rt: HostRuntime) -> Result<(), Fail> {
+    let alloc = rt.alloc();
+    for (recipe, words, text) in [
+        (
+            EXITS_IN_TWO,
+            "replay a.rec",
+            "0 end,exited,3,,0x0001000c,,0x00000005\nregs,x,,,,,x2=0x7fffffe0 x10=0x00000005 x17=0x0000005d\n",
+        ),
+        (
+            UNMADE_CALL,
+            "replay a.rec",
+            "8 sledge: replay broken at count 3: call 0 is left\n",
+        ),
+        (
+            OTHER_MACHINE,
+            "replay a.rec",
+            "5 sledge: image broken at 18: Machine\n",
+        ),
+        (
+            EXITS_IN_TWO,
+            "check a.rec",
+            "0 checked 0 calls, 1 checkpoints, end 3\n",
+        ),
+        (
+            UNMADE_CALL,
+            "check a.rec",
+            "0 checked 1 calls, 0 checkpoints, end 3\n",
+        ),
+        (
+            OTHER_MACHINE,
+            "check a.rec",
+            "5 sledge: image broken at 18: Machine\n",
         ),
     ] {
         let bytes = recording(alloc, recipe)?;

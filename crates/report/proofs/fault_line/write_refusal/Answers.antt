@@ -14,6 +14,3 @@ returns-in-RecordingBroken-clause-written g c = rw (c.in-RecordingBroken.is, ←
 
 pub returns-in-ImageBroken-clause-written : goal.returns-in-ImageBroken-clause-written
 returns-in-ImageBroken-clause-written g c = rw (c.in-ImageBroken.is, ← c.image_cause_name.ensures) c.write_line-in-ImageBroken.ensures.written
-
-pub returns-in-NotBuilt-clause-written : goal.returns-in-NotBuilt-clause-written
-returns-in-NotBuilt-clause-written g c = rw c.in-NotBuilt.is c.write_line-in-NotBuilt.ensures.written

@@ -1,4 +1,4 @@
-use Rattle.sledge_top.proofs.trace.report_of_plan.Given as goal
+use Rattle.sledge_top.proofs.trace.replay_plan.Given as goal
 
 abbrev pub ghosts-run_plan : goal.ghosts-run_plan
 ghosts-run_plan a = record { name = a.blank.name; parts = a.blank.parts }
