@@ -14,6 +14,6 @@ pub HasCalls-value : (rec : Recording) → IsRecordingValue rec → HasCalls rec
 HasCalls-value rec is = record { number = is.number_of_calls; each = short rec.calls is.each_call }
 
 -- one more
-pub short-push : (calls : List CallEntry) (entry : CallEntry) → AllByRecursion IsShort calls → IsShort entry → AllByRecursion IsShort (calls ++ entry ∷ [])
-short-push [] entry each is = (is, tt)
-short-push (c ∷ cs) entry each is = (each.0, short-push cs entry each.1 is)
+pub short_push : (calls : List CallEntry) (entry : CallEntry) → AllByRecursion IsShort calls → IsShort entry → AllByRecursion IsShort (calls ++ entry ∷ [])
+short_push [] entry each is = (is, tt)
+short_push (c ∷ cs) entry each is = (each.0, short_push cs entry each.1 is)

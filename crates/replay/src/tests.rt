@@ -43,6 +43,7 @@ fn opened(alloc: Global, program: &[u32]) -> Result<(Machine, Frames), Fail>
 }
 
 /// The recorded calls of some rows.
+#[tactic(auto, using(crate::proofs::Calls::short_push))]
 fn calls_of(alloc: Global, rows: &[Row<'_>]) -> Result<Seq<CallEntry>, Fail>
     ensures { IfOk result (AllByRecursion IsShort) }
 {
@@ -429,54 +430,43 @@ fn what_calls_leave(rt: HostRuntime) -> Result<(), Fail> {
     let down: Row<'_> = (214, [0x11000, 0x11000, 7, 0, 0, 0], 0x11000, b"");
     let up_again: Row<'_> = (214, [0x12000, 0x11000, 7, 0, 0, 0], 0x12000, b"");
     let program = three_bytes(63);
-    let rows: [(&[u32], &[Row<'_>], End, u64, Option<BreakKind>, u64); 6] = [
-        (&program, &[read], End::Exited(97), 8, None, 8),
-        (
-            &program,
-            &[read, read],
-            End::Exited(97),
-            8,
-            Some(BreakKind::CallsLeft { index: 1 }),
-            8,
-        ),
-        (
-            &program,
-            &[read, read],
-            End::Exited(98),
-            8,
-            differs(End::Exited(98), End::Exited(97)),
-            8,
-        ),
-        (&BREAKS, &[up, down, up_again], End::Exited(7), 14, None, 14),
-        (
-            &BREAKS,
-            &[up, down],
-            End::Exited(7),
-            14,
-            Some(BreakKind::NoCall { index: 2 }),
-            10,
-        ),
-        (
-            &BREAKS,
-            &[up, up],
-            End::Exited(7),
-            14,
-            Some(BreakKind::CallDiffers {
-                index: 1,
-                field: 1,
-                recorded: 0x12000,
-                due: 0x11000,
-            }),
-            8,
-        ),
-    ];
-    for (program, calls, end, count, kind, done) in rows {
-        assert_eq!(rt;
-            replayed(rt.alloc(), program, calls, end, count)?,
-            (kind, done),
-            "{program:?} {calls:?}"
-        );
-    }
+    let alloc = rt.alloc();
+    assert_eq!(rt;
+        replayed(alloc, &program, &[read], End::Exited(97), 8)?,
+        (None, 8),
+        "as recorded"
+    );
+    assert_eq!(rt;
+        replayed(alloc, &program, &[read, read], End::Exited(97), 8)?,
+        (Some(BreakKind::CallsLeft { index: 1 }), 8),
+        "a call too many"
+    );
+    assert_eq!(rt;
+        replayed(alloc, &program, &[read, read], End::Exited(98), 8)?,
+        (differs(End::Exited(98), End::Exited(97)), 8),
+        "the end before the calls"
+    );
+    assert_eq!(rt;
+        replayed(alloc, &BREAKS, &[up, down, up_again], End::Exited(7), 14)?,
+        (None, 14),
+        "the heap stays mapped"
+    );
+    assert_eq!(rt;
+        replayed(alloc, &BREAKS, &[up, down], End::Exited(7), 14)?,
+        (Some(BreakKind::NoCall { index: 2 }), 10),
+        "a call is missing"
+    );
+    let kind = Some(BreakKind::CallDiffers {
+        index: 1,
+        field: 1,
+        recorded: 0x12000,
+        due: 0x11000,
+    });
+    assert_eq!(rt;
+        replayed(alloc, &BREAKS, &[up, up], End::Exited(7), 14)?,
+        (kind, 8),
+        "the second call differs"
+    );
     Ok(())
 }
 
