@@ -10,3 +10,6 @@ pub use fault::{ScriptCause, ScriptFault};
 pub use node::{Node, Nodes, nodes_of};
 pub use pass::first_pass;
 pub use token::Token;
+
+#[cfg(test)]
+mod tests;
