@@ -22,8 +22,9 @@ use Rattle.report.specs.declared.run_end.RunEnd.{RunEnd}
 use Rattle.report.specs.declared.status.Refusal.{Refusal}
 use Rattle.report.specs.declared.status.Refusal.TheVariants as refusal
 use Rattle.report.specs.Report.{all_lines, report, checked_line}
-use Rattle.cli_words.specs.Orders.{Order, TraceOptions, TraceAt, Replay, Check, Record, order_of}
+use Rattle.cli_words.specs.Orders.{Order, TraceOptions, TraceAt, Replay, Check, Record, Show, order_of}
 use Rattle.sledge_top.specs.Done.{Done, only_text}
+use Rattle.sledge_top.specs.Show.{show_lines}
 
 infixl 10 ◌>>=◌
 abbrev pub ◌>>=◌ : {A B : Type 0} → Result A Refusal → (A → Result B Refusal) → Result B Refusal
@@ -132,6 +133,29 @@ check files name = do
   both ← recorded_in files name
   Ok (only_text (checked_line both.0))
 
+-- the most bytes of an image
+abbrev pub IMAGE_LIMIT : ℕ
+IMAGE_LIMIT = 67108864
+
+-- the image in a file: an ELF file, or with an address flat bytes
+abbrev pub image_from : Option ℕ → List ℕ → Result Image ImageFault
+image_from None bytes = elf_image bytes
+image_from (Some address) bytes = flat_image address bytes
+
+abbrev pub image_or_refusal : Option ℕ → List ℕ → Result Image Refusal
+image_or_refusal flat bytes = refused_by refusal.ImageBroken (image_from flat bytes)
+
+-- so many words of an image from an address on
+abbrev pub show_text : Image → ℕ → ℕ → List ℕ
+show_text image address lines = show_lines (opening image []).pages address lines
+
+-- `show IMAGE HEX N`
+abbrev pub show : Files → List ℕ → ℕ → ℕ → Option ℕ → Result Done Refusal
+show files name address lines flat = do
+  bytes ← file_of files name IMAGE_LIMIT
+  image ← image_or_refusal flat bytes
+  Ok (only_text (show_text image address lines))
+
 -- ---- all commands
 
 -- the analysis `all`, alone
@@ -147,6 +171,7 @@ abbrev pub is_built : Order → Bool
 is_built (TraceAt recording address options) = is_plain_trace options
 is_built (Replay recording) = true
 is_built (Check recording) = true
+is_built (Show image address lines flat) = true
 is_built other = false
 
 abbrev pub where_built : Order → Option Order
@@ -161,6 +186,7 @@ abbrev pub done_by : Files → Order → Result Done Refusal
 done_by files (TraceAt recording address options) = trace_at files recording address
 done_by files (Replay recording) = replay files recording
 done_by files (Check recording) = check files recording
+done_by files (Show image address lines flat) = show files image address lines flat
 done_by files other = Err refusal.Usage
 
 abbrev pub ordered : Files → Option Order → Result Done Refusal

@@ -1,5 +1,6 @@
 pub mod Done
 pub mod Runs
+pub mod Show
 pub mod Answer
 pub mod Endings
 pub mod Views

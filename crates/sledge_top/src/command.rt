@@ -13,6 +13,7 @@ ghost use Rattle.sledge_top.specs.Views.{done_view, Comes};
 
 use crate::done::{Done, finish};
 use crate::failure::Failure;
+use crate::show::show;
 use crate::trace::{check, replay, trace_at};
 use cli_words::{Order, TraceOptions, read_words};
 use report::{Refusal, Status, write_fault};
@@ -63,6 +64,12 @@ fn done_by<'a, S: Store>(
         } if is_plain_trace(options) => trace_at(alloc, recording, *address, options.epochs, store),
         Order::Replay { recording } => replay(alloc, recording, store),
         Order::Check { recording } => check(alloc, recording, store),
+        Order::Show {
+            image,
+            address,
+            lines,
+            flat,
+        } => show(alloc, image, *address, *lines, *flat, store),
         _ => Err(Failure::Refused(Refusal::Usage)),
     }
 }

@@ -5,6 +5,7 @@ mod command;
 mod done;
 mod failure;
 mod runs;
+mod show;
 mod store;
 mod trace;
 

@@ -1,6 +1,6 @@
 //! Files of the store, and how a command ends without them.
 
-ghost use Rattle.std.specs.Prelude.{◌≡◌, ◌≤◌, IfOk, IfErr, IfSome, IsErrOf};
+ghost use Rattle.std.specs.Prelude.{◌≡◌, ◌≤◌, vec_len, IfOk, IfErr, IfSome, IsErrOf};
 ghost use Rattle.sl_base.specs.Faults.{Rose};
 ghost use Rattle.sledge_top.specs.Answer.{file_of};
 ghost use Rattle.sledge_top.specs.Views.{Comes, IsLaterFailure};
@@ -28,6 +28,7 @@ pub fn file_of<S: Store>(
         Comes (λ bytes. bytes.items) result (file_of files name.now limit)) }
     ensures failed { IsErrOf result Failure.StoreFault
         → Rose (S.faults store.old) (S.faults store.new) }
+    ensures within { IfOk result (λ bytes. vec_len bytes ≤ limit) }
     ensures later { IfErr result IsLaterFailure }
     ensures faults { S.faults store.old ≤ S.faults store.new }
     ensures same { S.told store.new ≡ S.told store.old }

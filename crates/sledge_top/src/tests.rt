@@ -3,4 +3,5 @@
 mod recordings;
 mod refusals;
 mod running;
+mod shows;
 mod traces;

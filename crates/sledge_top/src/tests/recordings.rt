@@ -121,3 +121,10 @@ pub fn recording(alloc: Global, recipe: &str) -> Result<Vec<u8>, Fail> {
     }
     Ok(bytes)
 }
+
+/// The bytes of numbers of four bytes.
+pub fn words(alloc: Global, words: &str) -> Result<Vec<u8>, Fail> {
+    let mut bytes = Vec::new(alloc);
+    push_words(&mut bytes, words)?;
+    Ok(bytes)
+}

@@ -54,7 +54,9 @@ check a.rec => 4 sledge: recording broken at 0: Short
 record none.elf b.rec => 1 sledge: usage
 recut none.rec b.rec => 1 sledge: usage
 asm none.s b.elf => 1 sledge: usage
-show none.elf 0 1 => 1 sledge: usage
+show none.elf 0 1 => 2 sledge: absent: none.elf
+show a.rec 0 1 => 5 sledge: image broken at 0: Short
+show a.rec 0 1 --flat 10000 => 5 sledge: image broken at 0: Segment range
 gen 0 1 => 1 sledge: usage
 ";
 
