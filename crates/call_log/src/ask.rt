@@ -16,7 +16,8 @@ pub struct Ask {
 /// The least field of a recorded call that differs from the program's.
 #[derive(Clone, Copy, Debug, PartialEq, Eq)]
 pub struct CallDiff {
-    /// 0 the number, 1 to 6 the arguments, 7 the result, 8 the length of the data, 9 a byte of the data.
+    /// 0 the number, 1 to 6 the arguments, 7 the result, 8 the length of the data, 9 a byte of the
+    /// data.
     pub field: u32,
     /// The recorded value.
     pub recorded: u32,

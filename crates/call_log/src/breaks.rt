@@ -9,8 +9,8 @@ pub struct Break {
     pub kind: BreakKind,
 }
 
-/// What differs between a replay and its recording. Calls and checkpoints are named by their indexes in the recording:
-/// calls from 0, checkpoints from 1.
+/// What differs between a replay and its recording. Calls and checkpoints are named by their
+/// indexes in the recording: calls from 0, checkpoints from 1.
 #[derive(Clone, Copy, Debug, PartialEq, Eq)]
 pub enum BreakKind {
     /// The program makes a call, and the recording has no further one.
@@ -22,8 +22,8 @@ pub enum BreakKind {
     CallDiffers {
         /// The call's index.
         index: u32,
-        /// The least field that differs: 0 the number, 1 to 6 the arguments, 7 the result, 8 the length of the data,
-        /// 9 a byte of the data.
+        /// The least field that differs: 0 the number, 1 to 6 the arguments, 7 the result, 8 the
+        /// length of the data, 9 a byte of the data.
         field: u32,
         /// The recorded value.
         recorded: u32,
@@ -51,8 +51,9 @@ pub enum BreakKind {
     CheckpointDiffers {
         /// The checkpoint's index.
         index: u32,
-        /// What differs: 0 the program counter, 1 to 31 a register, 32 the break, 33 the end of the mapped heap, 34 the
-        /// index of the next call, 35 a byte of memory, 36 whether a page is mapped.
+        /// What differs: 0 the program counter, 1 to 31 a register, 32 the break, 33 the end of the
+        /// mapped heap, 34 the index of the next call, 35 a byte of memory, 36 whether a page is
+        /// mapped.
         part: u32,
         /// The address of the byte or the page; 0 for the other parts.
         at: u32,

@@ -102,7 +102,8 @@ fn answer_difference(entry: &CallEntry, ask: &Ask) -> Option<CallDiff>
     }
 }
 
-/// The least field of a recorded call that differs from what the program asks, and `None` exactly where none does.
+/// The least field of a recorded call that differs from what the program asks, and `None` exactly
+/// where none does.
 pub fn first_difference(entry: &CallEntry, ask: &Ask) -> Option<CallDiff>
     requires { length entry.now.bytes < 2 ^ 32 }
     ensures { result ≡ difference entry.now ask.now }

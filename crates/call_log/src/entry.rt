@@ -16,8 +16,8 @@ pub struct CallEntry {
 pub enum End {
     /// The program ended itself with this code, the whole word of register a0.
     Exited(u32),
-    /// The next instruction traps with this number: 0 misaligned, 1 fetch, 2 illegal instruction, 3 breakpoint, 5 load,
-    /// 7 store.
+    /// The next instruction traps with this number: 0 misaligned, 1 fetch, 2 illegal instruction, 3
+    /// breakpoint, 5 load, 7 store.
     Trapped(u32),
     /// The recorder stopped while the program still ran.
     Stopped,

@@ -1,5 +1,6 @@
-//! What a recording keeps of a run beside its checkpoints: the answered system calls and how the run ended. And what
-//! a replay tells where it first differs from the recording, and where a recorded call first does.
+//! What a recording keeps of a run beside its checkpoints: the answered system calls and how the
+//! run ended. And what a replay tells where it first differs from the recording, and where a
+//! recorded call first does.
 #![tactic(auto)]
 
 mod ask;

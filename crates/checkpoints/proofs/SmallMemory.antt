@@ -12,7 +12,7 @@ use Rattle.sl_model.specs.declared.run_state.RunState.TheVariants.{Running}
 use Rattle.sl_model.specs.Pages.{Pages, ArePages}
 use Rattle.sl_model.specs.Words.{IsWord}
 use Rattle.sl_model.proofs.Steps.{words-set_register}
-use Rattle.sl_model.specs.PagesLaws.{is_some-set_bytes}
+use Rattle.sl_model.proofs.PagesLaws.{is_some-set_bytes}
 use Rattle.sl_model.specs.State.{State, IsOpening}
 use Rattle.page_frames.specs.MarkedPages.{MarkedPages, with_page, with_bytes}
 use Rattle.checkpoints.proofs.Copying.{part_len}

@@ -17,7 +17,8 @@ fn hex_number(digits: &[u8]) -> Option<u32>
     Some(value)
 }
 
-/// The number that a word stands for, in one to eight hexadecimal digits that may stand behind `0x`.
+/// The number that a word stands for, in one to eight hexadecimal digits that may stand behind
+/// `0x`.
 pub fn hex_value(word: &str) -> Option<u32>
     ensures { result ≡ hex_value word.now }
 {

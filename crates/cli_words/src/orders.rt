@@ -20,12 +20,13 @@ pub struct RecordOptions<'a> {
     pub limit: u64,
     /// The distance between checkpoints in instructions, 1 to 2^40.
     pub every: u64,
-    /// The arguments of the program, at most 64. None holds a zero byte, and with a zero byte behind each they have at
-    /// most 65,536 bytes.
+    /// The arguments of the program, at most 64. None holds a zero byte, and with a zero byte
+    /// behind each they have at most 65,536 bytes.
     pub arguments: Vec<&'a str>,
 }
 
-/// A command, with its files' names, numbers and options. Options that were left out have their defaults.
+/// A command, with its files' names, numbers and options. Options that were left out have their
+/// defaults.
 #[derive(Debug, Drop)]
 pub enum Order<'a> {
     /// `trace RECORDING SCRIPT`: replays a recording with the tracers of a script.
@@ -54,7 +55,8 @@ pub enum Order<'a> {
         output: &'a str,
         options: RecordOptions<'a>,
     },
-    /// `recut RECORDING OUTPUT`: replays a recording, and puts the same run with checkpoints at another distance.
+    /// `recut RECORDING OUTPUT`: replays a recording, and puts the same run with checkpoints at
+    /// another distance.
     Recut {
         recording: &'a str,
         output: &'a str,

@@ -255,8 +255,8 @@ fn row_of<'a>(
     }
 }
 
-/// The command that the words name; `Usage` exactly where they are in no row. The first word names it; numbers and
-/// options that were left out stand in it with their defaults.
+/// The command that the words name; `Usage` exactly where they are in no row. The first word names
+/// it; numbers and options that were left out stand in it with their defaults.
 pub fn read_words<'a>(alloc: Global, words: &'a [String]) -> Result<Order<'a>, Refused<Usage>>
     ensures order { Gives order_view result (order_of (texts words.now)) }
     ensures range { IfOk result (λ order. Fits (order_view order)) }

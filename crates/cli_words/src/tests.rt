@@ -119,7 +119,8 @@ fn repeated(alloc: Global, byte: char, count: u32) -> Result<String, Fail> {
     Ok(text)
 }
 
-/// Whether `record` takes so many arguments, which begin with `--arg=` and have this text behind it.
+/// Whether `record` takes so many arguments, which begin with `--arg=` and have this text behind
+/// it.
 fn takes_arguments(alloc: Global, count: u32, text: &str) -> Result<bool, Fail> {
     let mut words = words_of(alloc, "record a.elf b.rec")?;
     for _ in 0..count {

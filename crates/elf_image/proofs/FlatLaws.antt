@@ -10,7 +10,8 @@ use Rattle.elf_image.specs.declared.image.Segment.{Segment}
 use Rattle.elf_image.specs.declared.fault.ImageFault.{ImageFault}
 use Rattle.elf_image.specs.declared.fault.ImageCause.TheVariants.{SegmentRange, Overlap}
 use Rattle.elf_image.specs.Reading.{Gives}
-use Rattle.elf_image.specs.Flat.{MEMORY_END, MOST_LOADED_PAGES, STACK_PAGES, page_count, meets_stack, one_segment, flat_fault, flat_image}
+use Rattle.sl_model.specs.declared.layout.TheConstants.{MEMORY_END, MOST_LOADED_PAGES, STACK_PAGES}
+use Rattle.elf_image.specs.Flat.{page_count, meets_stack, one_segment, flat_fault, flat_image}
 use Rattle.elf_image.specs.Loadable.{segment_pages, page_set, number_of_pages, IsPlaced, IsLoadable}
 use Rattle.elf_image.proofs.PageSet.{len-from_list-le}
 

@@ -6,7 +6,8 @@ use Rattle.std.proofs.Common.{◌≡◌, ℕ, ◌+◌, ◌/◌, ◌<◌, ◌≤�
 use Rattle.std.proofs.lemmas.Bool.{and_parts, and_cases, and_from, or_cases, ltb-true, leb-true}
 use Rattle.elf_image.specs.declared.image.Image.{Image}
 use Rattle.elf_image.specs.declared.image.Segment.{Segment}
-use Rattle.elf_image.specs.Flat.{FIRST_STACK_PAGE, STACK_PAGES, page_count}
+use Rattle.sl_model.specs.declared.layout.TheConstants.{FIRST_STACK_PAGE, STACK_PAGES}
+use Rattle.elf_image.specs.Flat.{page_count}
 use Rattle.elf_image.specs.Loadable.{takes_memory, meets_page, number_of_pages, IsByteOf, IsPlaced, IsLoadable}
 use Rattle.elf_image.proofs.PageSet.{length-le-number_of_pages}
 

@@ -1,14 +1,11 @@
 -- The image of a test can be written.
-use Rattle.std.specs.Prelude.{◌^◌, ◌*◌}
-use Rattle.std.specs.List.{All, AllByRecursion, flat_map}
-use Rattle.std.specs.Ordering.{nat_cmp}
-use Rattle.std.specs.FinSet.{from_list, len}
-use Rattle.std.proofs.Common.{◌≡◌, ℕ, ◌+◌, ◌<◌, ◌≤◌, List, [], ◌∷◌, length, refl, subst, sym, arith}
-use Rattle.sl_base.specs.declared.symbol.Symbol.{Symbol}
+use Rattle.std.specs.Prelude.{◌^◌}
+use Rattle.std.specs.List.{flat_map}
+use Rattle.std.proofs.Common.{ℕ, ◌<◌, ◌≤◌, [], ◌∷◌, refl, subst, sym, arith}
 use Rattle.elf_image.specs.declared.image.Image.{Image}
 use Rattle.elf_image.specs.declared.image.Segment.{Segment}
 use Rattle.elf_image.specs.Loadable.{segment_pages, page_set, number_of_pages, IsPlaced, IsLoadable}
-use Rattle.elf_image.specs.Written.{layout_of, written, IsWritable}
+use Rattle.elf_image.specs.Written.{IsWritable}
 use Rattle.elf_image.proofs.PageSet.{len-from_list-le}
 use Rattle.elf_image.proofs.WrittenImage.{all_of}
 use Rattle.elf_image.proofs.WrittenLengths.{length-written}

@@ -9,7 +9,10 @@ use Rattle.elf_image.specs.declared.fault.ImageCause.{ImageCause}
 
 -- a check that a file passes or fails, with the place and the cause that are told where it fails
 abbrev pub check : Bool → ℕ → ImageCause → Check
-check passes place cause = record { passes = passes; fault = record { place = place; cause = cause } }
+check passes place cause = record {
+  passes = passes;
+  fault = record { place = place; cause = cause };
+}
 
 abbrev pub AllPass : List Check → Type 0
 AllPass checks = AllByRecursion (λ c. c.passes ≡ true) checks

@@ -1,6 +1,6 @@
 -- Flat images, and the pages that a range of memory meets.
 use Rattle.std.specs.Prelude.{ℕ, ◌+◌, ◌-◌, ◌/◌, ◌==◌, ◌&&◌, Bool, List, [], ◌∷◌, length, nat_lt, nat_le, Result, Ok, Err, if◌then◌else◌}
-pub use Rattle.sl_model.specs.declared.layout.TheConstants.{PAGE_SIZE, MEMORY_END, FIRST_STACK_PAGE, STACK_PAGES, MOST_LOADED_PAGES}
+use Rattle.sl_model.specs.declared.layout.TheConstants.{PAGE_SIZE, MEMORY_END, FIRST_STACK_PAGE, STACK_PAGES, MOST_LOADED_PAGES}
 use Rattle.elf_image.specs.declared.image.Image.{Image}
 use Rattle.elf_image.specs.declared.fault.ImageFault.{ImageFault}
 use Rattle.elf_image.specs.declared.fault.ImageCause.{ImageCause}
@@ -35,6 +35,7 @@ flat_image address bytes =
     let len = length bytes in
     if len == 0 then flat_fault cause.SegmentRange
     else if nat_lt MEMORY_END (address + len) then flat_fault cause.SegmentRange
-    else if nat_lt MOST_LOADED_PAGES (page_count address len + STACK_PAGES) then flat_fault cause.SegmentRange
+    else if nat_lt MOST_LOADED_PAGES (page_count address len + STACK_PAGES)
+    then flat_fault cause.SegmentRange
     else if meets_stack address len then flat_fault cause.Overlap
     else Ok (one_segment address bytes)

@@ -1,5 +1,5 @@
--- The file header of an ELF32 file, and its checks. The fields and their numbers are those of the System V ABI
--- (ELF Header) and of the RISC-V ELF psABI (File Header).
+-- The file header of an ELF32 file, and its checks. The fields and their numbers are those of the
+-- System V ABI (ELF Header) and of the RISC-V ELF psABI (File Header).
 use Rattle.std.specs.Prelude.{ℕ, ◌+◌, ◌*◌, ◌==◌, ◌||◌, List, [], ◌∷◌, ◌++◌, length, nat_le, slice_index, slice_range, bit_and}
 use Rattle.std.specs.Int.{w16, w32, from_le_bytes}
 use Rattle.elf_image.specs.declared.check.Check.{Check}
@@ -61,7 +61,8 @@ COMPRESSED = 0x1
 abbrev pub FLOAT_ABI : ℕ
 FLOAT_ABI = 0x6
 
--- the first 16 bytes: 0x7F, "ELF", a file of class 32 bits, with its lowest bytes first, of version 1
+-- the first 16 bytes: 0x7F, "ELF", a file of class 32 bits, with its lowest bytes first, of version
+-- 1
 abbrev pub ident_checks : List ℕ → List Check
 ident_checks file =
     check (byte_at file 0 == 0x7F) 0 Magic
@@ -73,8 +74,8 @@ ident_checks file =
     ∷ check (byte_at file 6 == 1) 6 Class
     ∷ []
 
--- an executable (ET_EXEC) for RISC-V (EM_RISCV) without compressed instructions and floats in registers, whose
--- program headers, if there are any, take 32 bytes each and lie in the file
+-- an executable (ET_EXEC) for RISC-V (EM_RISCV) without compressed instructions and floats in
+-- registers, whose program headers, if there are any, take 32 bytes each and lie in the file
 abbrev pub kind_checks : List ℕ → List Check
 kind_checks file =
     let none = e_phnum file == 0 in
@@ -88,4 +89,5 @@ kind_checks file =
     ∷ []
 
 abbrev pub header_checks : List ℕ → List Check
-header_checks file = check (nat_le 52 (length file)) 0 Short ∷ (ident_checks file ++ kind_checks file)
+header_checks file =
+    check (nat_le 52 (length file)) 0 Short ∷ (ident_checks file ++ kind_checks file)

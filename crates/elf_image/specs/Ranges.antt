@@ -11,7 +11,8 @@ use Rattle.elf_image.specs.Loadable.{meets_page}
 abbrev pub lies_at : ℕ → ℕ → Segment → Bool
 lies_at start end segment = segment.vaddr == start && segment.vaddr + segment.memsz == end
 
--- the map has the end of each segment at its start and nothing else, and no two of them share a byte
+-- the map has the end of each segment at its start and nothing else, and no two of them share a
+-- byte
 pub record AreEnds (ends : BTreeMap ℕ ℕ) (segments : List Segment) : Type 0 where
   pub each : AllByRecursion (λ s. get nat_cmp ends s.vaddr ≡ Some (s.vaddr + s.memsz)) segments
   pub only : (start end : ℕ) → get nat_cmp ends start ≡ Some end
@@ -22,7 +23,8 @@ pub record AreEnds (ends : BTreeMap ℕ ℕ) (segments : List Segment) : Type 0 
 
 -- the set has the pages that meet some of the segments
 abbrev pub ArePages : BTreeSet ℕ → List Segment → Type 0
-ArePages pages segments = (page : ℕ) → contains nat_cmp pages page ≡ list_any (λ s. meets_page s page) segments
+ArePages pages segments =
+    (page : ℕ) → contains nat_cmp pages page ≡ list_any (λ s. meets_page s page) segments
 
 -- is a number among so many from one on
 abbrev pub is_in_row : ℕ → ℕ → ℕ → Bool
@@ -36,4 +38,5 @@ IsWithRow old new first count =
 -- no numbers but those of one set and so many from one on
 abbrev pub IsWithin : BTreeSet ℕ → BTreeSet ℕ → ℕ → ℕ → Type 0
 IsWithin old new first count =
-    (n : ℕ) → contains nat_cmp new n ≡ true → (contains nat_cmp old n || is_in_row first count n) ≡ true
+    (n : ℕ) → contains nat_cmp new n ≡ true
+    → (contains nat_cmp old n || is_in_row first count n) ≡ true

@@ -10,6 +10,7 @@ Fails refused.Memory reading = ⊤
 Fails (refused.Fault fault) reading = reading ≡ Err fault
 
 -- what a call returned, seen by view, is what reading gives, unless memory was wanting
-abbrev pub Gives : {X A : Type 0} → (X → A) → Result X (Refused ImageFault) → Result A ImageFault → Type 0
+abbrev pub Gives : {X A : Type 0}
+    → (X → A) → Result X (Refused ImageFault) → Result A ImageFault → Type 0
 Gives view (Ok x) reading = reading ≡ Ok (view x)
 Gives view (Err e) reading = Fails e reading

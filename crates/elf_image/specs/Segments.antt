@@ -1,4 +1,5 @@
--- The program headers of an ELF32 file, the segments that they load, and their checks (System V ABI, Program Header).
+-- The program headers of an ELF32 file, the segments that they load, and their checks (System V
+-- ABI, Program Header).
 use Rattle.std.specs.Prelude.{ℕ, zero, suc, ◌+◌, ◌==◌, ◌&&◌, ◌||◌, not, Bool, List, [], ◌∷◌, ◌++◌, length, map, filter, nat_lt, nat_le, slice_range, if◌then◌else◌}
 use Rattle.std.specs.List.{list_any}
 use Rattle.sl_model.specs.declared.layout.TheConstants.{MEMORY_END, STACK_PAGES, MOST_LOADED_PAGES}

@@ -1,4 +1,5 @@
--- The symbols of an ELF32 file, and the checks of their tables (System V ABI, Sections, String Table, Symbol Table).
+-- The symbols of an ELF32 file, and the checks of their tables (System V ABI, Sections, String
+-- Table, Symbol Table).
 use Rattle.std.specs.Prelude.{ℕ, ◌+◌, ◌*◌, ◌/◌, ◌%◌, ◌==◌, ◌&&◌, ◌||◌, not, Bool, List, [], ◌∷◌, ◌++◌, length, map, find, drop, Option, None, Some, nat_lt, nat_le, slice_range, if◌then◌else◌}
 use Rattle.std.specs.List.{filter_map, list_any, before_first}
 use Rattle.std.specs.Option.{option_map}
@@ -52,7 +53,8 @@ symbol_table file =
 
 -- ---- the checks
 
--- a table of whole entries of 16 bytes, which lies in the file, with a string table that does so too
+-- a table of whole entries of 16 bytes, which lies in the file, with a string table that does so
+-- too
 abbrev pub table_checks : List ℕ → Option SectionHeader → List Check
 table_checks file None = []
 table_checks file (Some s) =
@@ -96,7 +98,8 @@ is_kept entry = nat_le (entry.st_info % 16) 2 && not (entry.st_shndx == 0)
 abbrev pub is_zero : ℕ → Bool
 is_zero b = b == 0
 
--- the bytes from an offset of a string table up to the first zero byte, where there is one and some stand before it
+-- the bytes from an offset of a string table up to the first zero byte, where there is one and some
+-- stand before it
 unfoldable pub name_at : List ℕ → ℕ → Option (List ℕ)
 name_at strings offset =
     let rest = drop offset strings in
@@ -107,7 +110,9 @@ name_at strings offset =
 abbrev pub symbol_of : List ℕ → SymbolEntry → Option Symbol
 symbol_of strings entry =
     if is_kept entry
-    then option_map (λ name. record { name = name; value = entry.st_value }) (name_at strings entry.st_name)
+    then
+    option_map (λ name. record { name = name; value = entry.st_value })
+    (name_at strings entry.st_name)
     else None
 
 -- the symbols of a table with these strings, in its order

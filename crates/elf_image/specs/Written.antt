@@ -1,5 +1,5 @@
--- ELF32 files that are written: the file header, the program headers, the segments' bytes, the symbol table, the string
--- table and the section headers. The tables start at multiples of 4.
+-- ELF32 files that are written: the file header, the program headers, the segments' bytes, the
+-- symbol table, the string table and the section headers. The tables start at multiples of 4.
 use Rattle.std.specs.Prelude.{◌≡◌, ℕ, ◌+◌, ◌-◌, ◌*◌, ◌/◌, ◌^◌, ◌<◌, false, List, [], ◌∷◌, ◌++◌, length, replicate}
 use Rattle.std.specs.List.{AllByRecursion, flat_map, list_any}
 use Rattle.std.specs.Int.{w16, w32, to_le_bytes}

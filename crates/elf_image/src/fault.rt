@@ -11,7 +11,8 @@ pub enum ImageCause {
     /// It is no ELF file.
     #[error("Magic")]
     Magic,
-    /// The file's class, data or version is another than that of 32-bit little-endian files of version 1.
+    /// The file's class, data or version is another than that of 32-bit little-endian files of
+    /// version 1.
     #[error("Class")]
     Class,
     /// The file is for another machine than RISC-V.

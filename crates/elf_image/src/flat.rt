@@ -48,9 +48,9 @@ fn one_segment(alloc: Global, addr: u32, bytes: &[u8]) -> Result<Image, Refused<
 
 /// The image of bytes that are loaded at an address, which is its entry. It has no symbols.
 ///
-/// It is refused with `SegmentRange` where there are no bytes, where they pass the end of a program's memory at
-/// 0xBFFFF000, or where their pages and those of the stack are more than 12,288; and then with `Overlap` where they meet
-/// a page of the stack.
+/// It is refused with `SegmentRange` where there are no bytes, where they pass the end of a
+/// program's memory at 0xBFFFF000, or where their pages and those of the stack are more than
+/// 12,288; and then with `Overlap` where they meet a page of the stack.
 pub fn flat_image(alloc: Global, addr: u32, bytes: &[u8]) -> Result<Image, Refused<ImageFault>>
     ensures image { Gives (λ image. image) result (flat_image addr bytes.now) }
     ensures loadable { IfOk result IsLoadable }

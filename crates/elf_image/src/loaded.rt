@@ -6,7 +6,8 @@ use std::alloc::{AllocError, Global};
 use std::collections::BTreeMap;
 use std::marker::Model;
 
-/// Segments that take memory and share no byte, with the end of each by its start. It is seen as the list of them.
+/// Segments that take memory and share no byte, with the end of each by its start. It is seen as
+/// the list of them.
 #[derive(Drop)]
 pub struct Loaded {
     segments: Vec<Segment>,
@@ -55,7 +56,8 @@ impl Loaded {
     pub fn push(&mut self, segment: Segment) -> Result<(), AllocError>
         requires takes { 0 < segment.memsz }
         requires fits { segment.vaddr + segment.memsz < 2 ^ 32 }
-        requires apart { list_any (has_byte_in segment.vaddr (segment.vaddr + segment.memsz)) self.old ≡ false }
+        requires apart { list_any (has_byte_in segment.vaddr (segment.vaddr + segment.memsz))
+            self.old ≡ false }
         ensures { OnOk result (self.new ≡ self.old ++ segment ∷ []) }
     {
         self.segments.reserve(1)?;

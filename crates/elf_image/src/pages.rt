@@ -9,7 +9,8 @@ use crate::memory::MOST_IMAGE_PAGES;
 use std::alloc::AllocError;
 use std::collections::BTreeSet;
 
-/// Adds so many pages from one on. It stops with `false` once there are more than an image may have.
+/// Adds so many pages from one on. It stops with `false` once there are more than an image may
+/// have.
 pub fn add_pages(pages: &mut BTreeSet<u32>, first: u32, count: u32) -> Result<bool, AllocError>
     requires { first + count < 2 ^ 32 }
 

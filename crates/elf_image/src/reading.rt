@@ -36,13 +36,14 @@ fn image(alloc: Global, file: &[u8]) -> Result<Image, Refused<ImageFault>>
 
 /// The image that an ELF32 file is, or its first fault.
 ///
-/// Its segments are those of the program headers of type `PT_LOAD` that take memory, in their order, and its symbols
-/// those of the first symbol table that are defined and have a name, no type or that of an object or a function.
+/// Its segments are those of the program headers of type `PT_LOAD` that take memory, in their
+/// order, and its symbols those of the first symbol table that are defined and have a name, no type
+/// or that of an object or a function.
 ///
 /// # Errors
 ///
-/// The fault of the first check that the file fails, going through the file header, the program headers and the symbol
-/// table, with its place; or want of memory.
+/// The fault of the first check that the file fails, going through the file header, the program
+/// headers and the symbol table, with its place; or want of memory.
 pub fn read_image(alloc: Global, bytes: &[u8]) -> Result<Image, Refused<ImageFault>>
     requires { length bytes.now < 2 ^ 32 }
 
@@ -61,7 +62,8 @@ pub fn read_image(alloc: Global, bytes: &[u8]) -> Result<Image, Refused<ImageFau
     image(alloc, bytes)
 }
 
-/// A law: each file is an image or has a first fault, and not both, and it is no more than one image.
+/// A law: each file is an image or has a first fault, and not both, and it is no more than one
+/// image.
 pub fn image_or_fault()
     ensures one_of_two { (file : List ℕ) → ((image : Image) × IsImage file image)
         ⊎ ((fault : ImageFault) × (first_fault file ≡ Some fault)) }

@@ -59,7 +59,8 @@ fn range(file: &[u8], header: ProgramHeader) -> Result<(), Refused<ImageFault>>
     ])
 }
 
-/// Whether a segment that takes memory shares no byte with those before it, and meets no page of the stack.
+/// Whether a segment that takes memory shares no byte with those before it, and meets no page of
+/// the stack.
 fn is_free(loaded: &Loaded, segment: &Segment) -> bool
     requires takes { 0 < segment.now.memsz }
     requires within { segment.now.vaddr + segment.now.memsz < 2 ^ 32 }
@@ -70,7 +71,8 @@ fn is_free(loaded: &Loaded, segment: &Segment) -> bool
         && !meets_stack(u64::from(segment.vaddr), u64::from(segment.memsz))
 }
 
-/// Adds the pages of a segment to those of the segments before it, and tells whether they are few enough.
+/// Adds the pages of a segment to those of the segments before it, and tells whether they are few
+/// enough.
 fn claim_pages(pages: &mut BTreeSet<u32>, segment: &Segment) -> Result<bool, AllocError>
     requires takes { 0 < segment.now.memsz }
     requires within { segment.now.vaddr + segment.now.memsz < 2 ^ 32 }

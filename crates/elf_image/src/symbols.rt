@@ -25,7 +25,8 @@ const SHT_SYMTAB: u32 = 2;
 /// The entry size that a symbol table names.
 const SYMTAB_ENTSIZE: u32 = 16;
 
-/// The type of a symbol that is a function. Those below it are symbols without a type and data objects.
+/// The type of a symbol that is a function. Those below it are symbols without a type and data
+/// objects.
 const STT_FUNC: u8 = 2;
 
 /// The section index of a symbol that is defined elsewhere.

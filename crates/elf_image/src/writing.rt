@@ -140,7 +140,8 @@ fn put_names(out: &mut Vec<u8>, symbols: &[Symbol]) -> Result<(), AllocError>
 fn put_sections(out: &mut Vec<u8>, at: FileLayout, strings: u32) -> Result<(), AllocError>
     requires { at.symbols ≤ at.strings }
     ensures { OnOk result (out.new.items
-        ≡ out.old.items ++ replicate 40 0 ++ symbols_section at ++ strings_section at.strings strings) }
+        ≡ out.old.items ++ replicate 40 0
+        ++ symbols_section at ++ strings_section at.strings strings) }
 {
     put_zeros(out, 40)?;
     let size = at.strings - at.symbols;
@@ -177,8 +178,8 @@ fn put_tables(out: &mut Vec<u8>, symbols: &[Symbol]) -> Result<(), AllocError>
     put_padding(out)
 }
 
-/// The bytes of an ELF32 file of an image: the file header, a program header for each segment, the segments' bytes, the
-/// symbol table, the string table and the section headers.
+/// The bytes of an ELF32 file of an image: the file header, a program header for each segment, the
+/// segments' bytes, the symbol table, the string table and the section headers.
 ///
 /// `read_image` of it gives the image back.
 ///

@@ -14,7 +14,8 @@ abbrev pub names : ℕ → Option ℕ → Bool
 names k None = false
 names k (Some j) = j == k
 
--- over all views: how often epoch k was claimed, how often it was said to have broken, and how often a load gave it
+-- over all views: how often epoch k was claimed, how often it was said to have broken, and how
+-- often a load gave it
 abbrev pub claims_of : ℕ → List View → ℕ
 claims_of k views = sum_by (λ v. times k v.claims) views
 
@@ -34,18 +35,20 @@ told_share v = if v.told then v.share else 0
 abbrev pub told_shares_of : List View → ℕ
 told_shares_of views = sum_by told_share views
 
--- the view of a seat that can act: it has a share, knows the board's numbers, and its breaks are among its claims
+-- the view of a seat that can act: it has a share, knows the board's numbers, and its breaks are
+-- among its claims
 pub record IsActive (epochs seats : ℕ) (v : View) : Type 0 where
   pub has_share : 0 < v.share
   pub same_epochs : v.epochs ≡ epochs
   pub same_seats : v.seats ≡ seats
   pub claimed : All (Contains v.claims) v.breaks
 
--- The two words are the next number and the least break. Each number below both the next number and the epochs was
--- claimed by one seat, once, and no other number was claimed. A seat was told only where the next number is at least
--- the epochs, and the next number is at most the epochs and the shares of the seats that were told. The least break is
--- at or below each epoch that was said to have broken, and it is one of them or names no epoch. What was read as the
--- least break was said to have broken. The shares add up to the seats, and each seat can act or is spent.
+-- The two words are the next number and the least break. Each number below both the next number and
+-- the epochs was claimed by one seat, once, and no other number was claimed. A seat was told only
+-- where the next number is at least the epochs, and the next number is at most the epochs and the
+-- shares of the seats that were told. The least break is at or below each epoch that was said to
+-- have broken, and it is one of them or names no epoch. What was read as the least break was said
+-- to have broken. The shares add up to the seats, and each seat can act or is spent.
 pub record IsKept (epochs seats next low : ℕ) (views : List View) : Type 0 where
   pub small : (epochs < 2 ^ 32) × (seats < 2 ^ 32)
   pub once : (k : ℕ) → k < next → k < epochs → claims_of k views ≡ 1

@@ -8,9 +8,9 @@ pub record BoardId : Type 0 where
   pub epochs : ℕ
   pub seats : ℕ
 
--- A seat: the board that it is of; its share of the seats that can be made; the epochs that it claimed, those of them
--- that it said broke, and what each of its loads of the least break gave, each in order; and whether it was told that
--- no epoch is left
+-- A seat: the board that it is of; its share of the seats that can be made; the epochs that it
+-- claimed, those of them that it said broke, and what each of its loads of the least break gave,
+-- each in order; and whether it was told that no epoch is left
 pub record SeatState : Type 0 where
   pub board : BoardId
   pub share : ℕ

@@ -18,8 +18,8 @@ const NEXT: usize = 0;
 /// The word that is the least epoch with a known break.
 const LEAST: usize = 1;
 
-/// A board of epochs that seats claim, from 0 on. Threads share it by reference, and each claims with a seat of its
-/// own. It is seen as its identity, with its numbers of epochs and seats.
+/// A board of epochs that seats claim, from 0 on. Threads share it by reference, and each claims
+/// with a seat of its own. It is seen as its identity, with its numbers of epochs and seats.
 #[derive(Drop)]
 pub struct Board {
     table: Table<(), View, Size, Claims, Global>,
@@ -43,9 +43,9 @@ impl Model for Board {
         × (b.epochs ≡ b.table.shared.key.epochs) };
 }
 
-/// The right to claim epochs from a board, with what was claimed so far. It has no bytes. It is seen as its board, its
-/// share of the seats that can be made, its claims, its breaks, what it read as the least break, and whether it was
-/// told that no epoch is left.
+/// The right to claim epochs from a board, with what was claimed so far. It has no bytes. It is
+/// seen as its board, its share of the seats that can be made, its claims, its breaks, what it read
+/// as the least break, and whether it was told that no epoch is left.
 #[derive(Drop)]
 pub struct BoardSeat {
     seat: Seat<(), View>,
@@ -96,8 +96,9 @@ impl Board {
         BoardSeat { seat: made }
     }
 
-    /// Claims the next epoch, which is above each epoch that the seat claimed before. `None` exactly where the number
-    /// drawn is at least the epochs; then the seat was told that none is left.
+    /// Claims the next epoch, which is above each epoch that the seat claimed before. `None`
+    /// exactly where the number drawn is at least the epochs; then the seat was told that none is
+    /// left.
     pub fn claim(&self, seat: &mut BoardSeat) -> Option<u32>
         requires own { seat.old.board ≡ self.now }
         requires not_told { seat.old.told ≡ false }
@@ -113,7 +114,8 @@ impl Board {
         self.epoch_of(drawn)
     }
 
-    /// The least epoch that was said to have broken; `None` exactly where the word that was read names none.
+    /// The least epoch that was said to have broken; `None` exactly where the word that was read
+    /// names none.
     pub fn low(&self, seat: &mut BoardSeat) -> Option<u32>
         requires { seat.old.board ≡ self.now }
         ensures epoch { IfSome result (λ k. k < self.now.epochs) }
@@ -145,8 +147,9 @@ impl Board {
         self.table.shared.join_seat::<Merged>(&mut seat.seat, other);
     }
 
-    /// Ends the board, with the seat that all others were joined to: no epoch was claimed twice; where the seat was
-    /// told, each was claimed; and each epoch that was read as the least break was said to have broken.
+    /// Ends the board, with the seat that all others were joined to: no epoch was claimed twice;
+    /// where the seat was told, each was claimed; and each epoch that was read as the least break
+    /// was said to have broken.
     pub fn close(self, seat: BoardSeat)
         requires own { seat.board ≡ self }
         requires all { seat.share ≡ self.seats }

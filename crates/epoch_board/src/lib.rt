@@ -1,4 +1,5 @@
-//! The board from which threads claim epochs: each epoch is claimed at most once, whatever the threads do.
+//! The board from which threads claim epochs: each epoch is claimed at most once, whatever the
+//! threads do.
 #![tactic(auto)]
 
 mod board;

@@ -15,7 +15,8 @@ use std::thread::Threads;
 /// The least epoch that breaks, where there are so many; every seventh from it on breaks too.
 const FIRST_BREAK: u32 = 3;
 
-/// A seat that was told that no epoch is left, the epochs that it claimed, and the breaks that it read.
+/// A seat that was told that no epoch is left, the epochs that it claimed, and the breaks that it
+/// read.
 #[derive(Drop)]
 struct Done {
     seat: BoardSeat,

@@ -5,7 +5,8 @@ pub enum CoreEvent {
     Claim(u32),
     /// A worker posts the epoch that it holds.
     Finish(u32),
-    /// A worker posts the epoch that it holds as skipped, since a smaller one is known to have broken.
+    /// A worker posts the epoch that it holds as skipped, since a smaller one is known to have
+    /// broken.
     Skip(u32),
     /// A worker that holds no epoch finds that none is left.
     Leave(u32),

@@ -93,8 +93,8 @@ impl CoreMachine {
         Ok(())
     }
 
-    /// A worker posts the epoch that it holds as skipped, where a smaller one is known to have broken. An `Err`
-    /// changes nothing.
+    /// A worker posts the epoch that it holds as skipped, where a smaller one is known to have
+    /// broken. An `Err` changes nothing.
     pub fn skip(&mut self, worker: u32) -> Result<(), Memory>
         ensures ok { OnOk result (self.new ≡ skip self.old worker) }
         ensures err { OnErr result (self.new ≡ self.old) }

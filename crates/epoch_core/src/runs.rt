@@ -4,7 +4,8 @@ use crate::post::Post;
 use sl_base::Memory;
 use std::alloc::Global;
 
-/// What runs epochs. It stands for a list of values, one for each epoch, none of which is `Skipped`.
+/// What runs epochs. It stands for a list of values, one for each epoch, none of which is
+/// `Skipped`.
 pub trait Runs {
     ghost use Rattle.epoch_core.specs.declared.post.PostValue.{PostValue};
     ghost use Rattle.epoch_core.specs.Posts.{IsOwn};

@@ -36,12 +36,12 @@ fn do_event<R: Runs>(
     Ok(())
 }
 
-/// Has workers claim, run and post the epochs in the order of the events, and gives their trays, by worker. An event
-/// that is not allowed where it comes, or of a number that is not below `workers`, changes nothing. After an `Err` the
-/// `runs` are given up.
+/// Has workers claim, run and post the epochs in the order of the events, and gives their trays, by
+/// worker. An event that is not allowed where it comes, or of a number that is not below `workers`,
+/// changes nothing. After an `Err` the `runs` are given up.
 ///
-/// Whatever the events are: where at the end no worker holds an epoch and every epoch was claimed, each epoch has
-/// exactly one post, with its value, or skipped below a smaller epoch that broke.
+/// Whatever the events are: where at the end no worker holds an epoch and every epoch was claimed,
+/// each epoch has exactly one post, with its value, or skipped below a smaller epoch that broke.
 pub fn run_schedule<R: Runs>(
     alloc: Global,
     runs: &mut R,

@@ -258,8 +258,8 @@ fn told_by_all(alloc: Global, tray: &[Post]) -> Result<Vec<(u32, Told)>, Fail> {
     Ok(posts)
 }
 
-/// Whether the trays of a list of events, which is told by its digits, are those that were worked out plainly. The lowest
-/// bit of a digit is the worker.
+/// Whether the trays of a list of events, which is told by its digits, are those that were worked
+/// out plainly. The lowest bit of a digit is the worker.
 fn trays_agree(alloc: Global, length: u32, digits: u32) -> Result<bool, Fail> {
     let mut plain = PlainCore::new(alloc);
     let mut events = Vec::new(alloc);

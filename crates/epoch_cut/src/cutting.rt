@@ -7,8 +7,8 @@ use sl_base::Memory;
 use std::alloc::Global;
 use std::marker::Model;
 
-/// Places between segments, from 0 to the number of segments, each above the one before it. The epochs run from each
-/// place to the next. It is seen as the list of the places.
+/// Places between segments, from 0 to the number of segments, each above the one before it. The
+/// epochs run from each place to the next. It is seen as the list of the places.
 #[derive(Debug, Drop)]
 pub struct Cutting {
     places: Vec<u32>,
@@ -39,8 +39,8 @@ impl Cutting {
     }
 }
 
-/// Cuts into as many epochs as asked for, or into one for each segment where there are fewer of these. Each place is
-/// its share of the segments, rounded down.
+/// Cuts into as many epochs as asked for, or into one for each segment where there are fewer of
+/// these. Each place is its share of the segments, rounded down.
 pub fn cut(alloc: Global, segments: u32, epochs: u32) -> Result<Cutting, Memory>
     requires segments { (1 ≤ segments) × (segments ≤ 4096) }
     requires epochs { (1 ≤ epochs) × (epochs ≤ 4096) }

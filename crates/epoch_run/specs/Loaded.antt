@@ -78,5 +78,6 @@ state_code =
 abbrev pub IsLoaded : Image → Checkpoints → Type 0
 IsLoaded image checkpoints = opened_of checkpoints ≡ opening image checkpoints.rec.args
 
-pub IsLoaded-prop : (image : Image) (checkpoints : Checkpoints) → IsProp (IsLoaded image checkpoints)
+pub IsLoaded-prop :
+    (image : Image) (checkpoints : Checkpoints) → IsProp (IsLoaded image checkpoints)
 IsLoaded-prop image checkpoints = Coded-set state_code _ _

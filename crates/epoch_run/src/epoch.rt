@@ -28,9 +28,9 @@ fn posted(came: Result<Seq<Record>, Refused<Break>>) -> Result<PostValue, Memory
     }
 }
 
-/// Runs epoch `k` of a plan from the recorded state of its first checkpoint, whatever the worker ran before, and gives
-/// its post. It breaks exactly where the epoch does, and is never `Skipped`. The steps that are counted are instructions
-/// of the program.
+/// Runs epoch `k` of a plan from the recorded state of its first checkpoint, whatever the worker
+/// ran before, and gives its post. It breaks exactly where the epoch does, and is never `Skipped`.
+/// The steps that are counted are instructions of the program.
 ///
 /// # Errors
 ///

@@ -57,7 +57,8 @@ pub fn fire(
     Ok(())
 }
 
-/// Records what the tracers leave at the recorded end, where they fire only before an instruction that traps.
+/// Records what the tracers leave at the recorded end, where they fire only before an instruction
+/// that traps.
 fn fire_at_end(
     alloc: Global,
     plan: &Plan,
@@ -74,7 +75,8 @@ fn fire_at_end(
     }
 }
 
-/// Records what the tracers leave at checkpoint `k` in the epoch that ends there: nothing but at the recorded end.
+/// Records what the tracers leave at checkpoint `k` in the epoch that ends there: nothing but at
+/// the recorded end.
 pub fn fire_at_checkpoint(
     alloc: Global,
     plan: &Plan,

@@ -21,7 +21,8 @@ use std::alloc::Global;
 pub struct Plan {
     /// The image that the program is loaded from.
     pub image: Image,
-    /// The recording with its checkpoints, and the opening state of the image with the recorded arguments.
+    /// The recording with its checkpoints, and the opening state of the image with the recorded
+    /// arguments.
     pub checkpoints: Checkpoints,
     /// The places where the intervals between checkpoints are cut.
     pub cutting: Cutting,

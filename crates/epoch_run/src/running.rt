@@ -15,9 +15,9 @@ use std::alloc::Global;
 use std::sync::ledger::Ledger;
 use tracer_lang::Record;
 
-/// Replays the epoch from checkpoint `a` to checkpoint `b`, from the state that `a` records, also where no run ever had
-/// that state, and gives the records that are left on it. What the worker ran before does not matter. The steps that
-/// are counted are instructions of the program.
+/// Replays the epoch from checkpoint `a` to checkpoint `b`, from the state that `a` records, also
+/// where no run ever had that state, and gives the records that are left on it. What the worker ran
+/// before does not matter. The steps that are counted are instructions of the program.
 ///
 /// # Errors
 ///

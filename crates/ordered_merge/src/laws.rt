@@ -7,8 +7,8 @@ ghost use Rattle.tracer_lang.specs.declared.record.Record.{Record};
 ghost use Rattle.epoch_core.specs.declared.post.PostValue.{PostValue as Value};
 ghost use Rattle.ordered_merge.specs.Merged.{merged, records_in, BreaksFirstAt, NoneBroke};
 
-/// A law: the merge is a break exactly where that is the break of the first epoch that broke, and it is the records of
-/// all epochs in order exactly where none broke.
+/// A law: the merge is a break exactly where that is the break of the first epoch that broke, and
+/// it is the records of all epochs in order exactly where none broke.
 pub fn merged_means()
     ensures broke { (values : List Value) (first : Break)
         → (merged values ≡ Err first) ↔ ((k : ℕ) × BreaksFirstAt values k first) }

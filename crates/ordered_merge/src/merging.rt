@@ -12,7 +12,8 @@ use sl_base::{Refused, Seq};
 use std::alloc::Global;
 use tracer_lang::Record;
 
-/// The records of so many epochs in their order, from one post for each epoch. The posts may stand in any order.
+/// The records of so many epochs in their order, from one post for each epoch. The posts may stand
+/// in any order.
 ///
 /// # Errors
 ///
@@ -21,7 +22,8 @@ pub fn merge(alloc: Global, epochs: u32, posts: Vec<Post>) -> Result<Seq<Record>
     // Each epoch has its one post, whatever the epochs came to.
     requires { (values : List Value) × (length values ≡ epochs) × Posted values posts.items }
 
-    // What the epochs came to decides the answer; the order of the posts and what was skipped do not.
+    // What the epochs came to decides the answer; the order of the posts and what was skipped do
+    // not.
     ensures { (values : List Value)
         → length values ≡ epochs → Posted values posts.items → Tells result (merged values) }
 {

@@ -3,7 +3,7 @@ use Rattle.std.proofs.Common.{◌≡◌, ℕ, ◌+◌, ◌-◌, ◌/◌, ◌<◌
 use Rattle.std.specs.Prelude.{IsSome}
 use Rattle.std.specs.FinMap.{get}
 use Rattle.sl_model.specs.Pages.{Pages, set_bytes}
-use Rattle.sl_model.specs.PagesLaws.{set_bytes-append, is_some-set_bytes}
+use Rattle.sl_model.proofs.PagesLaws.{set_bytes-append, is_some-set_bytes}
 use Rattle.page_frames.specs.MarkedPages.{MarkedPages, mark_bytes, with_bytes}
 use Rattle.page_frames.proofs.Marking.{mark_bytes-add}
 

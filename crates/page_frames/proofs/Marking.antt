@@ -9,8 +9,8 @@ use Rattle.std.proofs.lemmas.Map.Views.{Contains-from_any}
 use Rattle.std.proofs.lemmas.Grind.{common_steps}
 use Rattle.sl_model.specs.Pages.{Pages, set_byte, set_bytes}
 use Rattle.sl_model.specs.Marks.{MarksGoOn}
-use Rattle.sl_model.specs.PagesLaws.{get-set_byte_other}
-use Rattle.sl_model.specs.MarksLaws.{MarksGoOn-same, MarksGoOn-then}
+use Rattle.sl_model.proofs.PagesLaws.{get-set_byte_other}
+use Rattle.sl_model.proofs.MarksLaws.{MarksGoOn-same, MarksGoOn-then}
 use Rattle.page_frames.specs.MarkedPages.{mark, mark_bytes}
 
 marked_if : (b : Bool) (dirty : List ℕ) (page : ℕ) → list_any (eqb page) dirty ≡ b → mark (cond b dirty (dirty ++ page ∷ [])) page ≡ cond b dirty (dirty ++ page ∷ [])

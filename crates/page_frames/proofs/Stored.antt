@@ -4,7 +4,7 @@ use Rattle.std.specs.Prelude.{Option, Some, None, is_some, unwrap_or, ifâ—Œthenâ
 use Rattle.std.specs.Option.{option_map}
 use Rattle.sl_model.specs.Pages.{Pages, bytes_at, store_at, set_bytes, low_bytes}
 use Rattle.sl_model.specs.Marks.{MarksGoOn}
-use Rattle.sl_model.specs.MarksLaws.{MarksGoOn-same}
+use Rattle.sl_model.proofs.MarksLaws.{MarksGoOn-same}
 use Rattle.page_frames.specs.MarkedPages.{MarkedPages, with_bytes}
 use Rattle.page_frames.proofs.Marking.{mark_bytes-goes_on}
 

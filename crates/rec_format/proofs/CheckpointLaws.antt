@@ -10,7 +10,7 @@ use Rattle.rec_format.specs.declared.limits.TheConstants.{MOST_CHECKPOINTS, MOST
 use Rattle.rec_format.specs.declared.recording.ListedPage.{ListedPage}
 use Rattle.rec_format.specs.declared.recording.CheckpointData.{CheckpointData}
 use Rattle.rec_format.specs.Place.{Rest}
-use Rattle.rec_format.specs.Rules.{IsAbove, Rise, last_or, number_of, count_of, IsListedPage, IsCheckpoint, last_listing, AreNeeded, listings}
+use Rattle.rec_format.specs.Rules.{IsAbove, Rise, last_or, number_of, count_of, IsListedPage, IsCheckpoint, last_listed, AreNeeded, listings}
 use Rattle.rec_format.specs.Spelling.{word, double_word, counted, listed_page, checkpoint}
 use Rattle.rec_format.specs.Reading.{fault, refuse, run_at, word_at, double_word_at, word_up_to, words_at, risen, page_number_at, is_listed, page_at, pages_at, count_at, checkpoint_at, checkpoints_at}
 use Rattle.rec_format.proofs.CallLaws.{words_take, words_again}
@@ -70,7 +70,7 @@ not_listed (Some listed) bytes other = false_from_ne_true _ (λ h. other (ap Som
 record IsNextPage (before : Option ℕ) (earlier : List ListedPage) (page : ListedPage) : Type 0 where
   is_page : IsListedPage page
   above : IsAbove before page.number
-  needed : last_listing page.number earlier ≢ Some page.bytes
+  needed : last_listed page.number earlier ≢ Some page.bytes
 
 page_takes : (before : Option ℕ) (earlier : List ListedPage) (at : Rest) (x : ListedPage × Rest) → IsBytes at.bytes → page_at before earlier at ≡ Ok x → Takes at (listed_page x.0) x.1 × IsNextPage before earlier x.0
 unfolding page_at listed_page
@@ -78,13 +78,13 @@ page_takes before earlier at x fits e =
     step (page_number_at before at) _ x e (λ n n_is rest0.
     step (run_at PAGE_BYTES n.1) _ x rest0 (λ bytes bytes_is rest1.
     let page : ListedPage = record { number = n.0; bytes = bytes.0 } in
-    let g = refuse_ok (is_listed (last_listing n.0 earlier) bytes.0) at UnneededPage (page, bytes.1) x rest1 in
+    let g = refuse_ok (is_listed (last_listed n.0 earlier) bytes.0) at UnneededPage (page, bytes.1) x rest1 in
     let t = page_number_takes before at n fits n_is in
     let r = run_takes n.1 PAGE_BYTES bytes t.0.rest_fits bytes_is in
     let next : IsNextPage before earlier page = record {
       is_page = record { number = t.1; bytes = r.len_is };
       above = t.2;
-      needed = other_bytes (last_listing n.0 earlier) bytes.0 g.0;
+      needed = other_bytes (last_listed n.0 earlier) bytes.0 g.0;
     } in
     subst (λ (y : ListedPage × Rest). Takes at (word y.0.number ++ y.0.bytes) y.1 × IsNextPage before earlier y.0) g.1 (Takes-then at (word n.0) n.1 bytes.0 bytes.1 t.0 r.takes, next)))
 
@@ -93,7 +93,7 @@ unfolding page_at listed_page
 page_again before earlier at page rest next e =
     from (page_number_again before at page.number (page.bytes ++ rest) next.is_page.number next.above (e ∙ append_assoc (word page.number) page.bytes rest)) (λ next0 reads0 stands0.
     from (run_again next0 PAGE_BYTES page.bytes rest next.is_page.bytes stands0) (λ next1 reads1 stands1.
-    record { next = next1; reads = rw (reads0, reads1, not_listed (last_listing page.number earlier) page.bytes next.needed) refl; stands = stands1 }))
+    record { next = next1; reads = rw (reads0, reads1, not_listed (last_listed page.number earlier) page.bytes next.needed) refl; stands = stands1 }))
 
 -- pages of a checkpoint after these listings
 record KeepsPages (earlier pages : List ListedPage) : Type 0 where

@@ -4,7 +4,7 @@ use Rattle.std.specs.Prelude.{◌*◌, ◌&&◌, ◌||◌, nat_le, nat_lt, is_so
 use Rattle.std.specs.FinMap.{get}
 use Rattle.std.proofs.Common.{◌≡◌, ℕ, ◌/◌, ◌%◌, ◌<◌, ◌≤◌, ⊎_elim, Bool, true, false, length, refl, sym, ap, ◌∙◌, arith, le-leb, lt-ltb}
 use Rattle.std.proofs.lemmas.Bool.{or_cases, or_right, and_parts, and_from, ltb-true, leb-true}
-use Rattle.sl_model.specs.PagesLaws.{AreWhole}
+use Rattle.sl_model.proofs.PagesLaws.{AreWhole}
 use Rattle.sl_model.specs.State.{State, IsState, Fits, IsOpening, register, is_outside_heap}
 use Rattle.sl_model.proofs.Memory.{AreWhole-pages}
 use Rattle.sl_model.proofs.Mapping.{is_among}

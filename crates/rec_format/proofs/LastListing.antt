@@ -13,12 +13,12 @@ use Rattle.std.proofs.lemmas.Map.Lookups.{exact_unsigned}
 use Rattle.std.proofs.lemmas.Map.Views.{tells_apart}
 use Rattle.rec_format.specs.declared.listings.Listing.{Listing}
 use Rattle.rec_format.specs.declared.recording.ListedPage.{ListedPage}
-use Rattle.rec_format.specs.Rules.{last_listing}
+use Rattle.rec_format.specs.Rules.{last_listed}
 use Rattle.rec_format.specs.Listings.{seen, seen_page, bytes_at, IsIndex}
 
-pub last_listing-push : (number : ℕ) (earlier : List ListedPage) (page : ListedPage) → last_listing number (earlier ++ page ∷ []) ≡ cond (eqb page.number number) (Some page.bytes) (last_listing number earlier)
-last_listing-push number earlier page =
-    rw (reverse-append earlier (page ∷ [])) (elim (eqb page.number number) as (λ b. option_map (λ (p : ListedPage). p.bytes) (cond b (Some page) (find (λ (p : ListedPage). eqb p.number number) (reverse earlier))) ≡ cond b (Some page.bytes) (last_listing number earlier)) [ true ↦ refl | false ↦ refl ])
+pub last_listed-push : (number : ℕ) (earlier : List ListedPage) (page : ListedPage) → last_listed number (earlier ++ page ∷ []) ≡ cond (eqb page.number number) (Some page.bytes) (last_listed number earlier)
+last_listed-push number earlier page =
+    rw (reverse-append earlier (page ∷ [])) (elim (eqb page.number number) as (λ b. option_map (λ (p : ListedPage). p.bytes) (cond b (Some page) (find (λ (p : ListedPage). eqb p.number number) (reverse earlier))) ≡ cond b (Some page.bytes) (last_listed number earlier)) [ true ↦ refl | false ↦ refl ])
 
 -- what stands at an index stays
 slice_get-append : {X : Type 0} (xs ys : List X) (i : ℕ) → i < length xs → slice_get (xs ++ ys) i ≡ slice_get xs i
@@ -51,11 +51,11 @@ pub IsIndex-push : (before after : BTreeMap ℕ ℕ) (all : List Listing) (x : L
     → ((q : ℕ) → get nat_cmp after q ≡ cond (is_at (nat_cmp x.number) q) (Some (length all)) (get nat_cmp before q))
     → IsIndex before all → IsIndex after (all ++ x ∷ [])
 IsIndex-push before after all x updates index number =
-    let listed : last_listing number (seen (all ++ x ∷ [])) ≡ cond (eqb x.number number) (Some x.bytes.now) (last_listing number (seen all)) = ap (last_listing number) (map-append seen_page all (x ∷ [])) ∙ last_listing-push number (seen all) (seen_page x) in
+    let listed : last_listed number (seen (all ++ x ∷ [])) ≡ cond (eqb x.number number) (Some x.bytes.now) (last_listed number (seen all)) = ap (last_listed number) (map-append seen_page all (x ∷ [])) ∙ last_listed-push number (seen all) (seen_page x) in
     let place : get nat_cmp after number ≡ cond (eqb x.number number) (Some (length all)) (get nat_cmp before number) = updates number ∙ ap (λ (b : Bool). cond b (Some (length all)) (get nat_cmp before number)) (is_at-eqb x.number number) in
     let here : HasIndex (Some (length all)) (Some x.bytes.now) (all ++ x ∷ []) = (omega (arith, length_push all x), ap (option_map (λ (l : Listing). l.bytes.now)) (sym (slice_get-push all x))) in
-    let there : HasIndex (get nat_cmp before number) (last_listing number (seen all)) (all ++ x ∷ []) = HasIndex-append _ _ all (x ∷ []) (index number) in
-    let either : HasIndex (cond (eqb x.number number) (Some (length all)) (get nat_cmp before number)) (cond (eqb x.number number) (Some x.bytes.now) (last_listing number (seen all))) (all ++ x ∷ []) =
-    elim (eqb x.number number) as (λ b. HasIndex (cond b (Some (length all)) (get nat_cmp before number)) (cond b (Some x.bytes.now) (last_listing number (seen all))) (all ++ x ∷ [])) [ true ↦ here | false ↦ there ] in
-    subst (λ (p : Option ℕ). HasIndex p (last_listing number (seen (all ++ x ∷ []))) (all ++ x ∷ [])) (sym place)
+    let there : HasIndex (get nat_cmp before number) (last_listed number (seen all)) (all ++ x ∷ []) = HasIndex-append _ _ all (x ∷ []) (index number) in
+    let either : HasIndex (cond (eqb x.number number) (Some (length all)) (get nat_cmp before number)) (cond (eqb x.number number) (Some x.bytes.now) (last_listed number (seen all))) (all ++ x ∷ []) =
+    elim (eqb x.number number) as (λ b. HasIndex (cond b (Some (length all)) (get nat_cmp before number)) (cond b (Some x.bytes.now) (last_listed number (seen all))) (all ++ x ∷ [])) [ true ↦ here | false ↦ there ] in
+    subst (λ (p : Option ℕ). HasIndex p (last_listed number (seen (all ++ x ∷ []))) (all ++ x ∷ [])) (sym place)
     (subst (λ (o : Option (List ℕ)). HasIndex (cond (eqb x.number number) (Some (length all)) (get nat_cmp before number)) o (all ++ x ∷ [])) (sym listed) either)

@@ -1,14 +1,16 @@
 -- Laws of what the checkpoints of a recording list.
-use Rattle.std.proofs.Common.{◌≡◌, ℕ, zero, suc, ◌+◌, ◌-◌, ◌<◌, ◌≤◌, Bool, true, false, List, [], ◌∷◌, ◌++◌, length, take, drop, get_or, Option, Some, None, refl, ap, ◌∙◌, sym, arith, append_assoc, slice_get, length-append}
-use Rattle.std.specs.Prelude.{IfSome, unwrap_or, ◌==◌, if◌then◌else◌}
-use Rattle.std.specs.List.{AllByRecursion, flat_map}
+use Rattle.std.proofs.Common.{◌≡◌, ℕ, zero, suc, ◌+◌, ◌-◌, ◌<◌, ◌≤◌, Bool, true, false, List, [], ◌∷◌, ◌++◌, length, take, drop, get_or, cond, Option, Some, None, refl, ap, ◌∙◌, sym, arith, append_assoc, slice_get, length-append}
+use Rattle.std.specs.Prelude.{IfSome, unwrap_or, reverse, ◌==◌, if◌then◌else◌}
+use Rattle.std.specs.List.{AllByRecursion, flat_map, find}
+use Rattle.std.specs.Option.{option_map, option_or}
 use Rattle.std.specs.FinMap.{insert, contains_key}
-use Rattle.std.proofs.lemmas.List.{take_more, drop_more, append-nil}
+use Rattle.std.proofs.lemmas.List.{take_more, drop_more, append-nil, reverse-append}
+use Rattle.std.proofs.lemmas.List.Folds.{find-append}
 use Rattle.sl_model.specs.Pages.{Pages}
 use Rattle.rec_format.specs.declared.recording.Recording.{Recording}
 use Rattle.rec_format.specs.declared.recording.CheckpointData.{CheckpointData}
 use Rattle.rec_format.specs.declared.recording.ListedPage.{ListedPage}
-use Rattle.rec_format.specs.Rules.{IsListedPage, IsCheckpoint, IsRecordingValue, listings}
+use Rattle.rec_format.specs.Rules.{IsListedPage, IsCheckpoint, IsRecordingValue, listings, last_listed}
 use Rattle.rec_format.specs.Recorded.{all_checkpoints, checkpoint_at, end_place, listed_to, last_listing, put_listed, put_all_listed}
 
 -- ---- lists
@@ -53,6 +55,21 @@ last_listing-append bytes (x ∷ xs) ys number = last_listing-append (if x.numbe
 pub last_listing-more : (bytes : List ℕ) (listed : List ListedPage) (i number : ℕ) (item : ListedPage) → i < length listed → item ≡ get_or listed i item
     → last_listing bytes (take (i + 1) listed) number ≡ (if item.number == number then item.bytes else last_listing bytes (take i listed) number)
 last_listing-more bytes listed i number item lt is = ap (λ l. last_listing bytes l number) (take_item listed i item lt is) ∙ last_listing-append bytes (take i listed) (item ∷ []) number
+
+or_earlier : (found : Option ListedPage) (is : Bool) (x : ListedPage) (bytes : List ℕ) → unwrap_or (option_map (λ (p : ListedPage). p.bytes) found) (if is then x.bytes else bytes) ≡ unwrap_or (option_map (λ (p : ListedPage). p.bytes) (option_or found (cond is (Some x) None))) bytes
+or_earlier (Some p) is x bytes = refl
+or_earlier None true x bytes = refl
+or_earlier None false x bytes = refl
+
+-- the bytes of a page after some listings are those of its last one, or others where there is none
+pub last_listing-last_listed : (bytes : List ℕ) (listed : List ListedPage) (number : ℕ) → last_listing bytes listed number ≡ unwrap_or (last_listed number listed) bytes
+last_listing-last_listed bytes [] number = refl
+last_listing-last_listed bytes (x ∷ xs) number =
+    let is : ListedPage → Bool = λ p. p.number == number in
+    let reversed : find is (reverse (x ∷ xs)) ≡ option_or (find is (reverse xs)) (cond (x.number == number) (Some x) None) = ap (find is) (reverse-append (x ∷ []) xs) ∙ find-append is (reverse xs) (x ∷ []) in
+    last_listing-last_listed (if x.number == number then x.bytes else bytes) xs number
+    ∙ or_earlier (find is (reverse xs)) (x.number == number) x bytes
+    ∙ ap (λ found. unwrap_or (option_map (λ (p : ListedPage). p.bytes) found) bytes) (sym reversed)
 
 chosen_length : (b : Bool) (xs ys : List ℕ) → length xs ≡ 4096 → length ys ≡ 4096 → length (if b then xs else ys) ≡ 4096
 chosen_length true xs ys p q = p

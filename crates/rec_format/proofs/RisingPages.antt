@@ -10,7 +10,7 @@ use Rattle.call_log.specs.declared.entry.End.TheVariants.{Stopped}
 use Rattle.rec_format.specs.declared.recording.ListedPage.{ListedPage}
 use Rattle.rec_format.specs.declared.recording.CheckpointData.{CheckpointData}
 use Rattle.rec_format.specs.declared.recording.Recording.{Recording}
-use Rattle.rec_format.specs.Rules.{Rise, last_or, number_of, last_listing, AreNeeded, IsCheckpoint, IsRecordingValue}
+use Rattle.rec_format.specs.Rules.{Rise, last_or, number_of, last_listed, AreNeeded, IsCheckpoint, IsRecordingValue}
 use Rattle.rec_format.proofs.Fronts.{All-join, Rise-join}
 
 -- every page of these has a number below
@@ -32,7 +32,7 @@ not_found n (page ∷ pages) h =
     let other : eqb page.number n ≡ false = ne_eqb _ _ (λ same. omega (arith, h.0, same)) in
     rw other (not_found n pages h.1)
 
-not_listed : (n : ℕ) (pages : List ListedPage) → AreBelow n pages → last_listing n pages ≡ None
+not_listed : (n : ℕ) (pages : List ListedPage) → AreBelow n pages → last_listed n pages ≡ None
 not_listed n pages h = ap (option_map (λ (p : ListedPage). p.bytes)) (not_found n (reverse pages) (AreBelow-reverse n pages h))
 
 -- pages that rise after a number that is at least those of some others

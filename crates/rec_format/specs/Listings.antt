@@ -6,7 +6,7 @@ use Rattle.std.specs.List.{slice_get}
 use Rattle.std.specs.BTreeMap.{BTreeMap, get}
 use Rattle.rec_format.specs.declared.listings.Listing.{Listing}
 use Rattle.rec_format.specs.declared.recording.ListedPage.{ListedPage}
-use Rattle.rec_format.specs.Rules.{last_listing}
+use Rattle.rec_format.specs.Rules.{last_listed}
 
 -- a listing, wherever its bytes stand
 abbrev pub seen_page : Listing → ListedPage
@@ -22,5 +22,5 @@ bytes_at all i = option_map (λ l. l.bytes.now) (slice_get all i)
 -- each page has the index of its last listing
 abbrev pub IsIndex : BTreeMap ℕ ℕ → List Listing → Type 0
 IsIndex last all =
-    (number : ℕ) → MatchOption (get nat_cmp last number) (last_listing number (seen all) ≡ None)
-    (λ i. (i < length all) × (last_listing number (seen all) ≡ bytes_at all i))
+    (number : ℕ) → MatchOption (get nat_cmp last number) (last_listed number (seen all) ≡ None)
+    (λ i. (i < length all) × (last_listed number (seen all) ≡ bytes_at all i))

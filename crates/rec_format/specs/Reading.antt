@@ -15,7 +15,7 @@ use Rattle.rec_format.specs.declared.recording.ListedPage.{ListedPage}
 use Rattle.rec_format.specs.declared.recording.CheckpointData.{CheckpointData}
 use Rattle.rec_format.specs.declared.recording.Recording.{Recording}
 use Rattle.rec_format.specs.Place.{Rest, start}
-use Rattle.rec_format.specs.Rules.{last_or, highest_load_addr, has_zero, args_size, is_trap, number_of, count_of, last_listing, listings}
+use Rattle.rec_format.specs.Rules.{last_or, highest_load_addr, has_zero, args_size, is_trap, number_of, count_of, last_listed, listings}
 use Rattle.rec_format.specs.Spelling.{name, version}
 
 infixl 10 ◌>>=◌
@@ -161,7 +161,7 @@ unfoldable pub page_at : Option ℕ → List ListedPage → Rest → Result (Lis
 page_at before earlier at = do
   number ← page_number_at before at
   bytes ← run_at PAGE_BYTES number.1
-  refuse (is_listed (last_listing number.0 earlier) bytes.0) at UnneededPage
+  refuse (is_listed (last_listed number.0 earlier) bytes.0) at UnneededPage
       (record { number = number.0; bytes = bytes.0 }, bytes.1)
 
 unfoldable pub pages_at : List ListedPage → Rest → Result (List ListedPage × Rest) RecFault

@@ -89,15 +89,15 @@ pub record IsCheckpoint (checkpoint : CheckpointData) : Type 0 where
   pub pages_rise : Rise None (map number_of checkpoint.pages)
 
 -- the bytes of the last of these listings of a page
-abbrev pub last_listing : ℕ → List ListedPage → Option (List ℕ)
-last_listing number listings =
+abbrev pub last_listed : ℕ → List ListedPage → Option (List ℕ)
+last_listed number listings =
     option_map (λ page. page.bytes) (find (λ page. page.number == number) (reverse listings))
 
 -- each page differs from its last listing before
 abbrev pub AreNeeded : List ListedPage → List ListedPage → Type 0
 AreNeeded earlier [] = ⊤
 AreNeeded earlier (page ∷ pages) =
-    (last_listing page.number earlier ≢ Some page.bytes) × AreNeeded (earlier ++ page ∷ []) pages
+    (last_listed page.number earlier ≢ Some page.bytes) × AreNeeded (earlier ++ page ∷ []) pages
 
 -- the pages that checkpoints list, in order
 abbrev pub listings : List CheckpointData → List ListedPage

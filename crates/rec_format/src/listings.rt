@@ -34,7 +34,7 @@ impl<'a> Model for Listings<'a> {
 
 impl<'a> Listings<'a> {
     ghost use Rattle.std.specs.Prelude.{◌≡◌, [], ◌∷◌, ◌++◌, OnOk, option_copied};
-    ghost use Rattle.rec_format.specs.Rules.{last_listing};
+    ghost use Rattle.rec_format.specs.Rules.{last_listed};
 
     pub fn new(alloc: Global) -> Listings<'a>
         ensures { result ≡ [] }
@@ -47,7 +47,7 @@ impl<'a> Listings<'a> {
 
     /// The bytes of the last listing of a page.
     pub fn last(&self, number: u32) -> Option<&'a [u8]>
-        ensures { option_copied result ≡ last_listing number self.now }
+        ensures { option_copied result ≡ last_listed number self.now }
     {
         let index = self.last.get(&number)?;
         let listing = self.all.get(*index)?;

@@ -64,7 +64,8 @@ fn whole(alloc: Global, bytes: &[u8]) -> Result<Recording, Refused<RecFault>>
 ///
 /// # Errors
 ///
-/// The first rule that the bytes break, going from left to right, with the place of its field; or want of memory.
+/// The first rule that the bytes break, going from left to right, with the place of its field; or
+/// want of memory.
 pub fn read_recording(alloc: Global, bytes: &[u8]) -> Result<Recording, Refused<RecFault>>
     // What is read is spelled so and meets the rules.
     ensures found { IfOk result (IsRecording bytes.now) }

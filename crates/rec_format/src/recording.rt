@@ -10,7 +10,8 @@ pub struct ListedPage {
     pub bytes: Seq<u8>,
 }
 
-/// The state of the machine after some instructions, with the pages that changed since the checkpoint before.
+/// The state of the machine after some instructions, with the pages that changed since the
+/// checkpoint before.
 #[derive(Debug, Drop)]
 pub struct CheckpointData {
     /// How many instructions were done.

@@ -173,8 +173,8 @@ fn put_recording(out: &mut Vec<u8>, rec: &Recording) -> Result<(), AllocError>
 ///
 /// # Errors
 ///
-/// `TooLarge` with the length of the spelling exactly where it has more than 268,435,456 bytes; nothing of it is made
-/// then. Want of memory.
+/// `TooLarge` with the length of the spelling exactly where it has more than 268,435,456 bytes;
+/// nothing of it is made then. Want of memory.
 #[tactic(auto, using(crate::proofs::RecordingLaws::reading_again))]
 pub fn write_recording(alloc: Global, rec: &Recording) -> Result<Vec<u8>, Refused<TooLarge>>
     requires { IsRecordingValue rec.now }

@@ -8,7 +8,7 @@ use Rattle.std.proofs.lemmas.List.Filters.{length-filter_both}
 use Rattle.sl_base.specs.declared.call.Call.{Call}
 use Rattle.sl_base.specs.World.{write_number, error_result, is_error}
 use Rattle.sl_model.specs.Pages.{Pages, bytes_at}
-use Rattle.sl_model.specs.PagesLaws.{is_some-bytes_at-add}
+use Rattle.sl_model.proofs.PagesLaws.{is_some-bytes_at-add}
 use Rattle.sl_model.specs.Mapping.{map_pages}
 use Rattle.sl_model.specs.Arithmetic.{word_add}
 use Rattle.sl_model.specs.State.{State, Fits, set_register, is_outside_heap}

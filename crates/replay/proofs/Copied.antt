@@ -4,7 +4,7 @@ use Rattle.std.specs.FinMap.{get}
 use Rattle.std.specs.Option.{option_and_then, option_map}
 use Rattle.std.proofs.Common.{◌≡◌, ℕ, zero, suc, ◌+◌, ◌-◌, ◌*◌, ◌<◌, ◌≤◌, List, [], ◌∷◌, ◌++◌, take, drop, Option, Some, None, refl, sym, ap, subst, ◌∙◌, arith}
 use Rattle.sl_model.specs.Pages.{Pages, ArePages, byte_at, bytes_at}
-use Rattle.sl_model.specs.PagesLaws.{bytes_at-in_page, bytes_at-mapped}
+use Rattle.sl_model.proofs.PagesLaws.{bytes_at-in_page, bytes_at-mapped}
 use Rattle.sl_model.proofs.WholePages.{length-page}
 
 record HasByte (byte : Option ℕ) (rest : Option (List ℕ)) (bytes : List ℕ) : Type 0 where

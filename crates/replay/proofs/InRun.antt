@@ -8,7 +8,7 @@ use Rattle.sl_model.specs.declared.layout.Layout.{Layout}
 use Rattle.sl_model.specs.declared.run_state.RunState.{RunState}
 use Rattle.sl_model.specs.declared.run_state.RunState.TheVariants.{Running, Exited}
 use Rattle.sl_model.specs.Pages.{set_bytes}
-use Rattle.sl_model.specs.PagesLaws.{is_some-set_bytes}
+use Rattle.sl_model.proofs.PagesLaws.{is_some-set_bytes}
 use Rattle.sl_model.specs.State.{State, Fits, IsOpening, register}
 use Rattle.sl_model.specs.Step.{Next, Stepped, Called, Trapped, step, put_register, gone_to, after}
 use Rattle.call_log.specs.declared.ask.Ask.{Ask}

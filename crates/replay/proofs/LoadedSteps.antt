@@ -10,7 +10,7 @@ use Rattle.sl_model.specs.declared.layout.Layout.{Layout}
 use Rattle.sl_model.specs.declared.run_state.RunState.TheVariants.{Running}
 use Rattle.sl_model.specs.declared.layout.TheConstants.{STACK_START, STACK_END, FIRST_STACK_PAGE, STACK_PAGES}
 use Rattle.sl_model.specs.Pages.{Pages, bytes_at, set_bytes, low_bytes}
-use Rattle.sl_model.specs.PagesLaws.{AreWhole, is_some-set_bytes}
+use Rattle.sl_model.proofs.PagesLaws.{AreWhole, is_some-set_bytes}
 use Rattle.sl_model.specs.State.{State}
 use Rattle.sl_model.proofs.Memory.{bytes_at-from_pages}
 use Rattle.sl_model.proofs.WholePages.{AreWhole-set_bytes}

@@ -7,7 +7,7 @@ use Rattle.std.proofs.lemmas.Grind.{common_steps}
 use Rattle.std.proofs.lemmas.List.Elements.{Contains-push}
 use Rattle.sl_model.specs.Mapping.{zero_page}
 use Rattle.sl_model.specs.Marks.{MarksGoOn}
-use Rattle.sl_model.specs.MarksLaws.{MarksGoOn-same, MarksGoOn-then}
+use Rattle.sl_model.proofs.MarksLaws.{MarksGoOn-same, MarksGoOn-then}
 use Rattle.page_frames.specs.MarkedPages.{MarkedPages, with_page, with_pages}
 
 -- the marks of a memory go on to those of another

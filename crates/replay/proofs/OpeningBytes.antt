@@ -8,7 +8,7 @@ use Rattle.std.proofs.lemmas.Bool.{eqb-false}
 use Rattle.std.proofs.lemmas.List.Elements.{All-nil, All-cons, All-append}
 use Rattle.sl_model.specs.declared.layout.TheConstants.{MEMORY_END, FIRST_STACK_PAGE, STACK_PAGES}
 use Rattle.sl_model.specs.Pages.{Pages, ArePages, set_bytes, low_bytes}
-use Rattle.sl_model.specs.PagesLaws.{All-low_bytes}
+use Rattle.sl_model.proofs.PagesLaws.{All-low_bytes}
 use Rattle.sl_model.specs.Mapping.{map_pages}
 use Rattle.sl_model.proofs.Mapping.{ArePages-map_pages}
 use Rattle.sl_model.proofs.Memory.{ArePages-set_bytes}

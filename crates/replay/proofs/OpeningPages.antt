@@ -7,7 +7,7 @@ use Rattle.std.proofs.Common.{◌≡◌, ℕ, ◌+◌, ◌/◌, ◌<◌, ◌≤�
 use Rattle.std.proofs.lemmas.Bool.{or_cases, and_parts, ltb-true, leb-true, eqb-false, eqb-true}
 use Rattle.std.proofs.lemmas.Bool.Decides.{nat_tests}
 use Rattle.sl_model.specs.Pages.{Pages, set_bytes}
-use Rattle.sl_model.specs.PagesLaws.{AreWhole, is_some-set_bytes}
+use Rattle.sl_model.proofs.PagesLaws.{AreWhole, is_some-set_bytes}
 use Rattle.sl_model.specs.Mapping.{map_pages}
 use Rattle.sl_model.specs.declared.layout.TheConstants.{FIRST_STACK_PAGE, STACK_PAGES}
 use Rattle.sl_model.proofs.Counted.{length-keys, IsDistinct-keys, is_listed, len-map_pages-above, len-map_pages-below}

@@ -6,7 +6,7 @@ use Rattle.std.proofs.lemmas.Grind.{flat_map-append}
 use Rattle.std.proofs.lemmas.List.Sums.{sum_by-cons}
 use Rattle.sl_model.specs.declared.layout.TheConstants.{STACK_START, STACK_END}
 use Rattle.sl_model.specs.Pages.{low_bytes}
-use Rattle.sl_model.specs.PagesLaws.{length-low_bytes}
+use Rattle.sl_model.proofs.PagesLaws.{length-low_bytes}
 use Rattle.rec_format.specs.Rules.{AreArguments, args_size}
 use Rattle.replay.specs.Opening.{strings, strings_start, string_addresses, stack_words, stack_pointer}
 

@@ -52,8 +52,8 @@ abbrev pub string_addresses : ℕ → List (List ℕ) → List ℕ
 string_addresses address [] = []
 string_addresses address (arg ∷ args) = address ∷ string_addresses (address + length arg + 1) args
 
--- the words at the stack pointer: the number of arguments, their addresses, and four zeros, which end
--- them, are the empty environment and the empty list behind it
+-- the words at the stack pointer: the number of arguments, their addresses, and four zeros, which
+-- end them, are the empty environment and the empty list behind it
 abbrev pub stack_words : List (List ℕ) → List ℕ
 stack_words args = length args ∷ (string_addresses (strings_start args) args ++ replicate 4 0)
 

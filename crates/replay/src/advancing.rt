@@ -36,11 +36,13 @@ fn entry_at(rec: &Recording, index: u32) -> Option<&CallEntry>
     rec.calls.as_slice().get(index as usize)
 }
 
-/// Does the call at an ECALL: an exit by itself, and every other call with the next recorded answer.
+/// Does the call at an ECALL: an exit by itself, and every other call with the next recorded
+/// answer.
 ///
 /// # Errors
 ///
-/// The divergence of the call: nothing has changed then. Or want of memory, after which machine and memory are given up.
+/// The divergence of the call: nothing has changed then. Or want of memory, after which machine and
+/// memory are given up.
 #[cold]
 #[inline(never)]
 fn call(
@@ -108,8 +110,8 @@ fn run_one<L: Ledger>(
 ///
 /// # Errors
 ///
-/// Why the replay diverges there: nothing has changed then, and no step was counted. Or want of memory, after which
-/// machine and memory are given up.
+/// Why the replay diverges there: nothing has changed then, and no step was counted. Or want of
+/// memory, after which machine and memory are given up.
 #[inline(always)]
 pub fn advance_one<L: Ledger>(
     alloc: Global,

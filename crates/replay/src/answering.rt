@@ -55,7 +55,8 @@ fn move_break(m: &mut Machine, f: &mut Frames, address: u32) -> Result<(), Memor
     Ok(())
 }
 
-/// Does what a call changes beside a0 and the place. After an `Err` machine and memory are given up.
+/// Does what a call changes beside a0 and the place. After an `Err` machine and memory are given
+/// up.
 fn do_call(call: &Call, bytes: &[u8], m: &mut Machine, f: &mut Frames) -> Result<(), Memory>
     requires fits { Fits (state_of m.old f.old.pages) }
     requires data { is_outside call.now ≡ true → (call.now.number == 64) ≡ false
@@ -93,8 +94,8 @@ fn move_on(m: &mut Machine, value: u32)
     m.next_call += 1;
 }
 
-/// Does a call with its recorded answer, which does not differ from what the program asks. After an `Err` machine and
-/// memory are given up.
+/// Does a call with its recorded answer, which does not differ from what the program asks. After an
+/// `Err` machine and memory are given up.
 pub fn apply(entry: &CallEntry, m: &mut Machine, f: &mut Frames) -> Result<(), Memory>
     requires fits { Fits (state_of m.old f.old.pages) }
     requires count { m.old.count < 2 ^ 62 }

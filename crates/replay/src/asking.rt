@@ -118,7 +118,8 @@ fn given(alloc: Global, f: &Frames, call: &Call) -> Result<Seq<u8>, Memory>
     bytes_in(alloc, f, buffer(call), room(call))
 }
 
-/// What the program asks, where an ECALL is its next instruction: `None` for an exit, which is not recorded.
+/// What the program asks, where an ECALL is its next instruction: `None` for an exit, which is not
+/// recorded.
 pub fn ask(alloc: Global, m: &Machine, f: &Frames) -> Result<Option<Ask>, Memory>
     ensures { IfOk result (λ ask. ask ≡ ask_of (state_of m.now f.now.pages)) }
 {

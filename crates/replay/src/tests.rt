@@ -130,7 +130,8 @@ fn break_of(
     break_in::<Brand>(alloc, rec, m, frames, Blank::new(1))
 }
 
-/// Replays a program beside its recorded calls and end, and gives its divergence with the count there.
+/// Replays a program beside its recorded calls and end, and gives its divergence with the count
+/// there.
 fn replayed(
     alloc: Global,
     program: &[u32],
@@ -299,7 +300,8 @@ fn calls_are_compared(rt: HostRuntime) -> Result<(), Fail> {
     Ok(())
 }
 
-/// Sets a0, and makes a call with it whose other arguments are 0, and exits with the byte at address a1.
+/// Sets a0, and makes a call with it whose other arguments are 0, and exits with the byte at
+/// address a1.
 const fn one_argument(number: u32, upper: u32) -> [u32; 3] {
     [number << 20 | 0x893, upper << 12 | 0x537, 0x73]
 }
@@ -348,7 +350,8 @@ fn the_machine_decides(rt: HostRuntime) -> Result<(), Fail> {
     Ok(())
 }
 
-/// Makes call a7 with a buffer at a1 and a length of a2, by their upper bits, of which this is the lower part.
+/// Makes call a7 with a buffer at a1 and a length of a2, by their upper bits, of which this is the
+/// lower part.
 const fn buffer_of(upper: u32, length: u32) -> [u32; 4] {
     [0x03f0_0893, upper << 12 | 0x5b7, length << 12 | 0x637, 0x73]
 }
@@ -405,7 +408,8 @@ fn buffers_are_mapped(rt: HostRuntime) -> Result<(), Fail> {
     Ok(())
 }
 
-/// Moves the break by a page, stores 7 there, moves it down and up again, loads the byte, and exits with it.
+/// Moves the break by a page, stores 7 there, moves it down and up again, loads the byte, and exits
+/// with it.
 const BREAKS: [u32; 14] = [
     0x0d60_0893, // li a7, 214
     0x0001_2537, // lui a0, 0x12
@@ -507,7 +511,8 @@ fn loads_a_program(rt: HostRuntime) -> Result<(), Fail> {
     Ok(())
 }
 
-/// An ELF32 file, in words: four bytes at 0x10000 with zeros behind them up to 0x11ffc, and eight bytes from there on.
+/// An ELF32 file, in words: four bytes at 0x10000 with zeros behind them up to 0x11ffc, and eight
+/// bytes from there on.
 const TWO_SEGMENTS: [u32; 32] = [
     0x464c457f, 0x00010101, 0x00000000, 0x00000000, 0x00f30002, 0x00000001, 0x00010000, 0x00000034,
     0x00000000, 0x00000000, 0x00200034, 0x00000002, 0x00000000, 0x00000001, 0x00000074, 0x00010000,

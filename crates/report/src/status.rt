@@ -5,8 +5,8 @@ use elf_image::ImageFault;
 use rec_format::RecFault;
 use sl_base::Seq;
 
-/// Why a command was refused: by its words, by a file, or by what a file says. Nothing was written to the first output
-/// then, and nothing was put.
+/// Why a command was refused: by its words, by a file, or by what a file says. Nothing was written
+/// to the first output then, and nothing was put.
 #[derive(Debug, Drop)]
 pub enum Refusal {
     /// The words name no command.

@@ -31,7 +31,8 @@ pub fn report_text(alloc: Global, records: &[Record], last: &RunEnd) -> Result<V
     Ok(out)
 }
 
-/// What a check of a recording says: how many calls and checkpoints before the end it has, and the count of its end.
+/// What a check of a recording says: how many calls and checkpoints before the end it has, and the
+/// count of its end.
 pub fn checked_text(alloc: Global, rec: &Recording) -> Result<Vec<u8>, Memory>
     ensures { IfOk result (λ text. text.items ≡ checked_line rec.now) }
 {

@@ -1,5 +1,5 @@
-//! The fields of a word, by the formats of the RISC-V Unprivileged ISA ("Base Instruction Formats" and "Immediate
-//! Encoding Variants").
+//! The fields of a word, by the formats of the RISC-V Unprivileged ISA ("Base Instruction Formats"
+//! and "Immediate Encoding Variants").
 
 ghost use Rattle.std.specs.Prelude.{◌≡◌, ◌+◌, ◌*◌, ◌^◌, ◌<◌, ◌≤◌};
 ghost use Rattle.sl_model.specs.Words.{bits, opcode as opcode_of, funct3 as funct3_of, funct7 as funct7_of, rd_of, rs1_of, rs2_of, i_immediate, s_immediate, b_immediate, u_immediate, j_immediate};
@@ -97,8 +97,8 @@ pub fn store_offset(word: u32) -> Bits<12>
     Bits::<12>::low(joined(word >> 25, word >> 7 & 0x1f, 5))
 }
 
-/// imm[12:1] of the B format: imm[12] in bit 31, imm[11] in bit 7, imm[10:5] in bits 30 to 25, imm[4:1] in bits 11
-/// to 8.
+/// imm[12:1] of the B format: imm[12] in bit 31, imm[11] in bit 7, imm[10:5] in bits 30 to 25,
+/// imm[4:1] in bits 11 to 8.
 #[inline(always)]
 pub fn branch_half_offset(word: u32) -> Bits<12>
     ensures { result ≡ b_immediate word }
@@ -108,8 +108,8 @@ pub fn branch_half_offset(word: u32) -> Bits<12>
     Bits::<12>::low(joined(high, word >> 8 & 0xf, 4))
 }
 
-/// imm[20:1] of the J format: imm[20] in bit 31, imm[19:12] in bits 19 to 12, imm[11] in bit 20, imm[10:1] in bits 30
-/// to 21.
+/// imm[20:1] of the J format: imm[20] in bit 31, imm[19:12] in bits 19 to 12, imm[11] in bit 20,
+/// imm[10:1] in bits 30 to 21.
 #[inline(always)]
 pub fn jump_half_offset(word: u32) -> Bits<20>
     ensures { result ≡ j_immediate word }

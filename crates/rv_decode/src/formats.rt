@@ -1,5 +1,5 @@
-//! The words of each format, from their fields ("Base Instruction Formats" and "Immediate Encoding Variants" of the
-//! RISC-V Unprivileged ISA).
+//! The words of each format, from their fields ("Base Instruction Formats" and "Immediate Encoding
+//! Variants" of the RISC-V Unprivileged ISA).
 
 ghost use Rattle.std.specs.Prelude.{◌≡◌, ◌^◌, ◌<◌};
 ghost use Rattle.sl_model.specs.Words.{bits, opcode as opcode_of, funct3 as funct3_of, funct7 as funct7_of, rd_of, rs1_of, rs2_of, i_immediate, s_immediate, b_immediate, u_immediate, j_immediate};
@@ -67,8 +67,8 @@ pub fn store_format(opcode: u32, funct3: u32, rs1: Register, rs2: Register, offs
     joined(word, opcode, 7)
 }
 
-/// A word of the B format: imm[12] goes to bit 31, imm[10:5] to bits 30 to 25, imm[4:1] to bits 11 to 8, imm[11] to
-/// bit 7.
+/// A word of the B format: imm[12] goes to bit 31, imm[10:5] to bits 30 to 25, imm[4:1] to bits 11
+/// to 8, imm[11] to bit 7.
 pub fn branch_format(
     opcode: u32,
     funct3: u32,
@@ -105,8 +105,8 @@ pub fn upper_format(opcode: u32, rd: Register, imm: Bits<20>) -> u32
     joined(word, opcode, 7)
 }
 
-/// A word of the J format: imm[20] goes to bit 31, imm[10:1] to bits 30 to 21, imm[11] to bit 20, imm[19:12] to bits
-/// 19 to 12.
+/// A word of the J format: imm[20] goes to bit 31, imm[10:1] to bits 30 to 21, imm[11] to bit 20,
+/// imm[19:12] to bits 19 to 12.
 pub fn jump_format(opcode: u32, rd: Register, half_offset: Bits<20>) -> u32
     requires { opcode < 2 ^ 7 }
     ensures opcode { opcode_of result ≡ opcode }

@@ -1,4 +1,5 @@
-//! The operations that funct3 and funct7 name, by the instruction table of the RISC-V Unprivileged ISA.
+//! The operations that funct3 and funct7 name, by the instruction table of the RISC-V Unprivileged
+//! ISA.
 
 ghost use Rattle.std.specs.Prelude.{◌≡◌, ◌^◌, ◌<◌};
 ghost use Rattle.sl_model.specs.Words.{branch_op, load_op, store_op, immediate_op, shift_op, register_op, mul_div_op, branch_funct3, load_funct3, store_funct3, immediate_funct3, shift_funct3, shift_funct7, register_funct3, register_funct7, mul_div_funct3};

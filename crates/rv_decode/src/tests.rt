@@ -1,5 +1,6 @@
-//! Words and their instructions: the words are those that LLVM's `llvm-mc` makes of the assembly text, and the fields
-//! are those of the text. The illegal words are the neighbors of these, and instructions of other extensions.
+//! Words and their instructions: the words are those that LLVM's `llvm-mc` makes of the assembly
+//! text, and the fields are those of the text. The illegal words are the neighbors of these, and
+//! instructions of other extensions.
 
 use crate::{
     Bits, BranchOp, ImmediateOp, Instr, LoadOp, MulDivOp, Register, RegisterOp, ShiftOp, StoreOp,

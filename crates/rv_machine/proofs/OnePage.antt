@@ -7,7 +7,7 @@ use Rattle.std.specs.FinMap.{get, insert, empty, gets, get-empty, same_map, nat_
 use Rattle.std.proofs.Common.{◌≡◌, ℕ, ◌+◌, ◌-◌, ◌*◌, ◌/◌, ◌%◌, ◌<◌, ◌≤◌, ◌⊎◌, inl, inr, List, length, take, drop, Some, None, true, refl, sym, ap, ◌∙◌, arith, true≢false}
 use Rattle.std.proofs.lemmas.Grind.{common_steps}
 use Rattle.sl_model.specs.Pages.{Pages, bytes_at, load_at, store_at, set_bytes, put_bytes, from_bytes, low_bytes}
-use Rattle.sl_model.specs.PagesLaws.{load_at-in_page, bytes_at-in_page, bytes_at-mapped, set_bytes-in_page, length-low_bytes}
+use Rattle.sl_model.proofs.PagesLaws.{load_at-in_page, bytes_at-in_page, bytes_at-mapped, set_bytes-in_page, length-low_bytes}
 
 abbrev pub one_page : List ℕ → Pages
 one_page page = insert empty 16 page

@@ -40,7 +40,8 @@ fn do_next<B: Bus>(m: &mut Machine, bus: &mut B) -> Outcome
 
 /// Does the instruction at pc.
 ///
-/// `Stepped` counts one step. After `Call`, which is an ECALL, and after `Trap` nothing has changed.
+/// `Stepped` counts one step. After `Call`, which is an ECALL, and after `Trap` nothing has
+/// changed.
 #[inline(always)]
 pub fn step<B: Bus, L: Ledger>(m: &mut Machine, bus: &mut B, steps: &mut Steps<L>) -> Outcome
     requires running { m.old.status ≡ RunState.Running }

@@ -10,8 +10,8 @@ use crate::machine::Machine;
 use rv_decode::decode;
 use sl_model::{Bus, Instr};
 
-/// The address and the width of the store at pc, also where it will trap. `None` comes exactly where pc is no
-/// multiple of 4, a byte there is not mapped, or the word there is no store.
+/// The address and the width of the store at pc, also where it will trap. `None` comes exactly
+/// where pc is no multiple of 4, a byte there is not mapped, or the word there is no store.
 #[tactic(auto, unfolding(sl_model::specs::NextStore::next_store))]
 pub fn store_of<B: Bus>(m: &Machine, bus: &B) -> Option<(u32, u8)>
     ensures { result ≡ next_store (state_of m.now (B.pages bus.now)) }

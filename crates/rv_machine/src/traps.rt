@@ -69,8 +69,8 @@ fn trap_of_instr<B: Bus>(m: &Machine, bus: &B, instr: Instr) -> Option<u32>
     }
 }
 
-/// The trap of the instruction at pc, as the next step of a machine that runs would meet it, or `None` where that
-/// step is done or is a system call. Nothing changes.
+/// The trap of the instruction at pc, as the next step of a machine that runs would meet it, or
+/// `None` where that step is done or is a system call. Nothing changes.
 #[tactic(auto, unfolding(sl_model::specs::Step::step))]
 pub fn next_trap<B: Bus>(m: &Machine, bus: &B) -> Option<u32>
     ensures { result ≡ next.trap_of (next.step (state_of m.now (B.pages bus.now))) }

@@ -1,4 +1,5 @@
--- The text of an instruction, as the RISC-V Unprivileged ISA and its calling convention name its parts.
+-- The text of an instruction, as the RISC-V Unprivileged ISA and its calling convention name its
+-- parts.
 use Rattle.std.specs.Prelude.{ℕ, List, [], ◌∷◌, ◌++◌, codes, decimal}
 use Rattle.std.specs.List.{slice_index_or}
 use Rattle.std.specs.Fmt.{signed_decimal}

@@ -1,4 +1,5 @@
-//! Words and their texts, as LLVM's `llvm-mc` prints them without aliases. It prints the fields of FENCE too.
+//! Words and their texts, as LLVM's `llvm-mc` prints them without aliases. It prints the fields of
+//! FENCE too.
 
 use crate::print_instr;
 use rv_decode::decode;

@@ -212,9 +212,9 @@ fn by_variant(alloc: Global, instr: &Instr) -> Result<String, AllocError>
     }
 }
 
-/// The text of an instruction in assembly language: the mnemonic, and behind a space its operands, set apart by a
-/// comma and a space. Registers have their names of the calling convention, and numbers are decimal, with `-` where
-/// they are negative.
+/// The text of an instruction in assembly language: the mnemonic, and behind a space its operands,
+/// set apart by a comma and a space. Registers have their names of the calling convention, and
+/// numbers are decimal, with `-` where they are negative.
 pub fn print_instr(alloc: Global, instr: &Instr) -> Result<String, Memory>
     ensures { IfOk result (λ text. string_bytes text ≡ instr_text instr.now) }
 {

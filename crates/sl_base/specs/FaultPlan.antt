@@ -25,10 +25,15 @@ fails_next plan = list_any (λ number. number == one_more plan.calls) plan.faili
 
 -- after a call that failed, or didn't
 abbrev pub counted : FaultPlan → Bool → FaultPlan
-counted plan failed = record plan { calls = one_more plan.calls; faults = (if failed then one_more plan.faults else plan.faults) }
+counted plan failed = record plan {
+  calls = one_more plan.calls;
+  faults = (if failed then one_more plan.faults else plan.faults);
+}
 
 -- a plan is kept as the tuple of its parts
 abbrev pub plan_code : Coded FaultPlan
 plan_code =
     code_by (List ℕ × (ℕ × ℕ)) (coded× (coded_list coded_ℕ) (coded× coded_ℕ coded_ℕ))
-    (λ plan. (plan.failing, (plan.calls, plan.faults))) (λ p. record { failing = p.0; calls = p.1.0; faults = p.1.1 }) (λ _. refl)
+    (λ plan. (plan.failing, (plan.calls, plan.faults)))
+    (λ p. record { failing = p.0; calls = p.1.0; faults = p.1.1 })
+    (λ _. refl)

@@ -1,4 +1,5 @@
--- Counts of faults: how often something outside the program has failed. Such a count never falls, and stands still at the end of a u64.
+-- Counts of faults: how often something outside the program has failed. Such a count never falls,
+-- and stands still at the end of a u64.
 use Rattle.std.specs.Prelude.{◌≡◌, ℕ, ◌+◌, ◌-◌, ◌^◌, ◌≤◌, Bool, min, if◌then◌else◌}
 
 -- the count is greater than before, or stands at its end

@@ -14,7 +14,8 @@ files_of files = from_entries (map (λ file. (string_bytes file.0, file.1.items)
 
 -- none of the first n files has this name
 abbrev pub NoneNamed : List NamedFile → List ℕ → ℕ → Type 0
-NoneNamed files name n = (k : ℕ) (d : NamedFile) → k < n → string_bytes (slice_index_or files k d).0 ≢ name
+NoneNamed files name n =
+    (k : ℕ) (d : NamedFile) → k < n → string_bytes (slice_index_or files k d).0 ≢ name
 
 -- the file at this index is the first one of this name
 pub record IsFirstNamed (files : List NamedFile) (name : List ℕ) (i : ℕ) : Type 0 where

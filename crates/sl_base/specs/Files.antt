@@ -18,9 +18,11 @@ HasNoFile told name = IfSome told (λ files. get files name ≡ None)
 
 -- where the files are told, this name has more than so many bytes
 abbrev pub HasLongerFile : Option Files → List ℕ → ℕ → Type 0
-HasLongerFile told name limit = IfSome told (λ files. IsSomeAnd (get files name) (λ bytes. limit < length bytes))
+HasLongerFile told name limit =
+    IfSome told (λ files. IsSomeAnd (get files name) (λ bytes. limit < length bytes))
 
--- where the files were told they still are, and this name has these bytes now, and each other name what it had
+-- where the files were told they still are, and this name has these bytes now, and each other name
+-- what it had
 abbrev pub PutsFile : Option Files → Option Files → List ℕ → List ℕ → Type 0
 PutsFile None new name bytes = ⊤
 PutsFile (Some files) new name bytes = new ≡ Some (insert files name bytes)

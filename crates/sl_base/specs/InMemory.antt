@@ -20,4 +20,6 @@ pub record StoreState : Type 0 where
 abbrev pub store_code : Coded StoreState
 store_code =
     code_by (Files × FaultPlan) (coded× (code (coded_list coded_ℕ) (coded_list coded_ℕ)) plan_code)
-    (λ store. (store.files, store.plan)) (λ pair. record { files = pair.0; plan = pair.1 }) (λ _. refl)
+    (λ store. (store.files, store.plan))
+    (λ pair. record { files = pair.0; plan = pair.1 })
+    (λ _. refl)

@@ -25,9 +25,12 @@ pub fn get(
     limit: u64,
 ) -> Result<Vec<u8>, GetFault>
     ensures within { IfOk result (λ bytes. vec_len bytes ≤ limit) }
-    ensures bytes { IfOk result (λ bytes. HasFile (Some (files_of files.now)) name.now bytes.items) }
-    ensures absent { IsErrOf result GetFault.Absent → HasNoFile (Some (files_of files.now)) name.now }
-    ensures too_long { IsErrOf result GetFault.TooLong → HasLongerFile (Some (files_of files.now)) name.now limit }
+    ensures bytes { IfOk result
+        (λ bytes. HasFile (Some (files_of files.now)) name.now bytes.items) }
+    ensures absent { IsErrOf result GetFault.Absent
+        → HasNoFile (Some (files_of files.now)) name.now }
+    ensures too_long { IsErrOf result GetFault.TooLong
+        → HasLongerFile (Some (files_of files.now)) name.now limit }
     ensures never_failed { result ≢ Err GetFault.Failed }
 {
     let Some(bytes) = bytes_of(files, name) else {
@@ -49,7 +52,8 @@ pub fn put(
     name: &str,
     bytes: &[u8],
 ) -> Result<(), Memory>
-    ensures ok { OnOk result (files_of files.new.items ≡ map.insert (files_of files.old.items) name.now bytes.now) }
+    ensures ok { OnOk result
+        (files_of files.new.items ≡ map.insert (files_of files.old.items) name.now bytes.now) }
     ensures err { OnErr result (files.new.items ≡ files.old.items) }
 {
     let bytes = Vec::from_slice(alloc, bytes)?;
@@ -61,7 +65,9 @@ pub fn put(
 }
 
 fn index_of(files: &[(String, Vec<u8>)], name: &str) -> Option<usize>
-    ensures { MatchOption result (NoneNamed files.now name.now (length files.now)) (IsFirstNamed files.now name.now) }
+    ensures { MatchOption result
+        (NoneNamed files.now name.now (length files.now))
+        (IsFirstNamed files.now name.now) }
 {
     for (index, file) in files.iter().enumerate() {
         if file.0.as_str() == name {

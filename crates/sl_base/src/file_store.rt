@@ -11,7 +11,8 @@ use std::path::{Path, PathBuf};
 use std::rt::Files;
 use std::{fs, io};
 
-/// The files of a file system, by their paths. It counts each failure, and tells nothing of what they hold.
+/// The files of a file system, by their paths. It counts each failure, and tells nothing of what
+/// they hold.
 #[derive(Drop)]
 pub struct FileStore<'a, F: Files> {
     files: &'a F,
@@ -79,8 +80,8 @@ fn read_file<F: Files>(files: &F, alloc: Global, name: &str, limit: u64) -> io::
     Ok(bytes)
 }
 
-/// The permissions of the file that a name has, and `None` where no file has it. What is no file, or may not be
-/// written, is refused, since it is not to be replaced.
+/// The permissions of the file that a name has, and `None` where no file has it. What is no file,
+/// or may not be written, is refused, since it is not to be replaced.
 fn replaced_permissions<F: Files>(files: &F, name: &str) -> io::Result<Option<Permissions>> {
     let found = match fs::metadata(files, name) {
         Ok(found) => found,
@@ -98,9 +99,9 @@ fn replaced_permissions<F: Files>(files: &F, name: &str) -> io::Result<Option<Pe
     Ok(Some(permissions))
 }
 
-/// Writes a new file beside the name, whole, and renames it over the name, so that the name has the old bytes or the
-/// new ones at each moment. The new file has the permissions of the one that it replaces. Where a step fails, it is
-/// removed again.
+/// Writes a new file beside the name, whole, and renames it over the name, so that the name has the
+/// old bytes or the new ones at each moment. The new file has the permissions of the one that it
+/// replaces. Where a step fails, it is removed again.
 fn replace_file<F: Files>(files: &F, alloc: Global, name: &str, bytes: &[u8]) -> io::Result<()> {
     let permissions = replaced_permissions(files, name)?;
     let (new, file) = create_beside(files, alloc, name)?;
@@ -115,8 +116,8 @@ fn replace_file<F: Files>(files: &F, alloc: Global, name: &str, bytes: &[u8]) ->
     done
 }
 
-/// Makes a file in the folder of the name that was not there before, with the first number that is free: files that a
-/// crash left behind stand in nobody's way.
+/// Makes a file in the folder of the name that was not there before, with the first number that is
+/// free: files that a crash left behind stand in nobody's way.
 fn create_beside<F: Files>(files: &F, alloc: Global, name: &str) -> io::Result<(PathBuf, F::File)> {
     for number in 0..u32::MAX {
         let file_name = format!(in alloc; ".sledge-{number}.new")?;

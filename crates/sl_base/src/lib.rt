@@ -1,5 +1,5 @@
-//! What every crate stands on: the outside as traits, lists and refusals that contracts see as plain values, a
-//! counter of steps, and the texts of numbers.
+//! What every crate stands on: the outside as traits, lists and refusals that contracts see as
+//! plain values, a counter of steps, and the texts of numbers.
 #![tactic(auto)]
 
 mod call;

@@ -23,15 +23,21 @@ impl Model for MemorySink {
 
     ghost Value = { SinkState };
 
-    ghost view = { λ sink. record { bytes = sink.bytes.items; room = sink.room; plan = sink.plan } };
+    ghost view = { λ sink. record {
+      bytes = sink.bytes.items;
+      room = sink.room;
+      plan = sink.plan;
+    } };
 
     ghost invariant = { λ sink. sink.room ≤ vec_capacity sink.bytes };
 }
 
 impl MemorySink {
-    /// Takes room for so many bytes. The writes with these numbers are to fail, where the first write is 1.
+    /// Takes room for so many bytes. The writes with these numbers are to fail, where the first
+    /// write is 1.
     pub fn new(alloc: Global, room: usize, failing: Vec<u32>) -> Result<MemorySink, Memory>
-        ensures { IfOk result (λ sink. sink ≡ record { bytes = []; room = room; plan = new_plan failing.items }) }
+        ensures { IfOk result
+            (λ sink. sink ≡ record { bytes = []; room = room; plan = new_plan failing.items }) }
     {
         Ok(MemorySink {
             bytes: Vec::with_capacity(alloc, room)?,
@@ -59,13 +65,16 @@ impl Sink for MemorySink {
         requires { 0 < length piece.now }
 
         // A write fails where it is planned to, or where no room is left, and else takes what fits.
-        ensures fails { is_err result ≡ (fails_next self.old.plan || nat_le self.old.room (length self.old.bytes)) }
-        ensures takes { IfOk result (λ n. n ≡ min (length piece.now) (self.old.room - length self.old.bytes)) }
+        ensures fails { is_err result
+            ≡ (fails_next self.old.plan || nat_le self.old.room (length self.old.bytes)) }
+        ensures takes { IfOk result
+            (λ n. n ≡ min (length piece.now) (self.old.room - length self.old.bytes)) }
         ensures taken { IfOk result (λ n. self.new ≡ record self.old {
           bytes = self.old.bytes ++ take n piece.now;
           plan = counted self.old.plan false;
         }) }
-        ensures nothing_taken { OnErr result (self.new ≡ record self.old { plan = counted self.old.plan true }) }
+        ensures nothing_taken { OnErr result
+            (self.new ≡ record self.old { plan = counted self.old.plan true }) }
         ensures later { self.old.plan.faults ≤ self.new.plan.faults }
     {
         let left = self.room.saturating_sub(self.bytes.len());

@@ -32,8 +32,8 @@ impl Model for MemoryStore {
 }
 
 impl MemoryStore {
-    /// A store with these names and bytes, where the first file of a name counts. The calls with these numbers are to
-    /// fail, where the first get or put is 1. It takes no memory.
+    /// A store with these names and bytes, where the first file of a name counts. The calls with
+    /// these numbers are to fail, where the first get or put is 1. It takes no memory.
     pub fn new(files: Vec<(String, Vec<u8>)>, failing: Vec<u32>) -> MemoryStore
         ensures { result ≡ record { files = files_of files.items; plan = new_plan failing.items } }
     {
@@ -61,12 +61,15 @@ impl Store for MemoryStore {
     fn get(&mut self, alloc: Global, name: &str, limit: u64) -> Result<Vec<u8>, GetFault>
         // A call fails exactly where it is planned to.
         ensures fails { IsErrOf result GetFault.Failed ↔ IsTrue (fails_next self.old.plan) }
-        ensures after { self.new ≡ record self.old { plan = counted self.old.plan (fails_next self.old.plan) } }
+        ensures after { self.new ≡ record self.old {
+          plan = counted self.old.plan (fails_next self.old.plan);
+        } }
 
         ensures within { IfOk result (λ bytes. vec_len bytes ≤ limit) }
         ensures bytes { IfOk result (λ bytes. HasFile (Some self.old.files) name.now bytes.items) }
         ensures absent { IsErrOf result GetFault.Absent → HasNoFile (Some self.old.files) name.now }
-        ensures too_long { IsErrOf result GetFault.TooLong → HasLongerFile (Some self.old.files) name.now limit }
+        ensures too_long { IsErrOf result GetFault.TooLong
+            → HasLongerFile (Some self.old.files) name.now limit }
         ensures later { self.old.plan.faults ≤ self.new.plan.faults }
     {
         if self.plan.next_fails(false) {
@@ -79,7 +82,9 @@ impl Store for MemoryStore {
         // A call fails exactly where it is planned to, and then changes no file.
         ensures fails { IsErrOf result PutFault.Failed ↔ IsTrue (fails_next self.old.plan) }
         ensures after { self.new ≡ record self.old {
-          files = if is_ok result then map.insert self.old.files name.now bytes.now else self.old.files;
+          files =
+              if is_ok result then map.insert self.old.files name.now bytes.now
+              else self.old.files;
           plan = counted self.old.plan (fails_next self.old.plan);
         } }
         ensures later { self.old.plan.faults ≤ self.new.plan.faults }

@@ -19,7 +19,11 @@ impl Model for PlannedFaults {
 
     ghost Value = { FaultPlan };
 
-    ghost view = { λ plan. record { failing = plan.failing.items; calls = plan.calls; faults = plan.faults } };
+    ghost view = { λ plan. record {
+      failing = plan.failing.items;
+      calls = plan.calls;
+      faults = plan.faults;
+    } };
 }
 
 impl PlannedFaults {

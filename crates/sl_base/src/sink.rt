@@ -16,19 +16,20 @@ pub trait Sink {
     /// How often it has failed. The count never falls, and no caller can raise it.
     ghost faults: { Self → ℕ };
 
-    /// Takes some bytes of the piece, from the first on, and gives their number, which is not 0. After an `Err` it
-    /// has taken none. It takes no memory.
+    /// Takes some bytes of the piece, from the first on, and gives their number, which is not 0.
+    /// After an `Err` it has taken none. It takes no memory.
     fn write(&mut self, piece: &[u8]) -> Result<usize, SinkFailed>
         requires { 0 < length piece.now }
         ensures count { IfOk result (λ n. (0 < n) × (n ≤ length piece.now)) }
-        ensures added { IfOk result (λ n. Adds (written self.old) (written self.new) (take n piece.now)) }
+        ensures added { IfOk result
+            (λ n. Adds (written self.old) (written self.new) (take n piece.now)) }
         ensures failed { OnErr result (Rose (faults self.old) (faults self.new)) }
         ensures kept { OnErr result (written self.new ≡ written self.old) }
         ensures later { faults self.old ≤ faults self.new };
 }
 
-/// Writes all the bytes, in as many pieces as the sink wants. After an `Err` it has written some of them, from the
-/// first on. It takes no memory.
+/// Writes all the bytes, in as many pieces as the sink wants. After an `Err` it has written some of
+/// them, from the first on. It takes no memory.
 pub fn write_all<O: Sink>(out: &mut O, bytes: &[u8]) -> Result<(), SinkFailed>
     ensures added { OnOk result (Adds (O.written out.old) (O.written out.new) bytes.now) }
     ensures prefix { OnErr result (AddsPrefix (O.written out.old) (O.written out.new) bytes.now) }

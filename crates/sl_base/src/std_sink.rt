@@ -7,8 +7,9 @@ use crate::sink::{Sink, SinkFailed};
 use std::io::Write;
 use std::marker::Model;
 
-/// A sink over a writer, as `rt.stdout()` or `rt.stderr()`. It counts each failure, and tells nothing of what was
-/// written. A writer that takes nothing has failed, and a write that a signal interrupts is tried again.
+/// A sink over a writer, as `rt.stdout()` or `rt.stderr()`. It counts each failure, and tells
+/// nothing of what was written. A writer that takes nothing has failed, and a write that a signal
+/// interrupts is tried again.
 #[derive(Drop)]
 pub struct StdSink<W> {
     writer: W,

@@ -21,9 +21,10 @@ const MOST_BYTES: usize = 65_536;
 /// Error 9: there is no such descriptor.
 const NO_DESCRIPTOR: u32 = 0xffff_fff7;
 
-/// The world of a process. Descriptor 0 is read from its stdin by one read, which may give fewer bytes than there is
-/// room. 1 and 2 are written to its stdout and stderr, whole. Random bytes are read from `/dev/urandom`, as many as
-/// there is room. What a signal interrupts is tried again. It counts each failure, and tells no replies.
+/// The world of a process. Descriptor 0 is read from its stdin by one read, which may give fewer
+/// bytes than there is room. 1 and 2 are written to its stdout and stderr, whole. Random bytes are
+/// read from `/dev/urandom`, as many as there is room. What a signal interrupts is tried again. It
+/// counts each failure, and tells no replies.
 #[derive(Drop)]
 pub struct StdWorld<'a, F, I, O, E> {
     files: &'a F,
@@ -87,7 +88,8 @@ impl<F: Files, I: Read, O: Write, E: Write> World for StdWorld<'_, F, I, O, E> {
         // Only other descriptors are unknown, and random bytes fill the room.
         ensures known { HasDescriptor call.now → result ≢ no_descriptor }
         ensures unknown { ¬ HasDescriptor call.now → result ≡ no_descriptor }
-        ensures random { call.now.number ≡ getrandom_number → (result ≡ length take.old) ⊎ (result ≡ failure) }
+        ensures random { call.now.number ≡ getrandom_number
+            → (result ≡ length take.old) ⊎ (result ≡ failure) }
     {
         let count = match (call.number, call.args[0]) {
             (READ, 0) => read_some(&mut self.input, &mut self.buffer, take),
@@ -126,7 +128,8 @@ fn read_some<R: Read>(reader: &mut R, buffer: &mut [u8], take: &mut [u8]) -> Opt
 pub fn read_whole<R: Read>(reader: &mut R, buffer: &mut [u8], take: &mut [u8]) -> Option<u32>
     requires { length take.old ≤ 65536 }
     ensures count { IfSome result (λ count. count ≡ length take.old) }
-    ensures bytes { IfSome result (λ _. Consumes (R.remaining reader.old) (R.remaining reader.new) take.new) }
+    ensures bytes { IfSome result
+        (λ _. Consumes (R.remaining reader.old) (R.remaining reader.new) take.new) }
     ensures none { IfNone result (take.new ≡ take.old) }
 {
     let room = take.len();

@@ -5,10 +5,11 @@ ghost use Rattle.std.specs.Prelude.{◌≡◌, ◌+◌, ◌<◌};
 use std::marker::Model;
 use std::sync::ledger::{Blank, Book, Ledger, Share};
 
-/// How many steps were taken. It takes no bytes, and only `tick` changes it. Contracts see it as a number.
+/// How many steps were taken. It takes no bytes, and only `tick` changes it. Contracts see it as a
+/// number.
 ///
-/// What a tick stands for is said where it is counted. A function takes `steps: &mut Steps<L>` for any ledger, and so
-/// can neither make a count of its own nor turn one back.
+/// What a tick stands for is said where it is counted. A function takes `steps: &mut Steps<L>` for
+/// any ledger, and so can neither make a count of its own nor turn one back.
 #[derive(Drop)]
 pub struct Steps<L: Ledger> {
     book: Book<L>,
@@ -26,8 +27,8 @@ impl<L: Ledger> Model for Steps<L> {
 }
 
 impl<L: Ledger> Steps<L> {
-    /// A count that begins at 0, on a new ledger. Who counts nothing gives `Blank::new(1)` to a function that makes
-    /// its count from it.
+    /// A count that begins at 0, on a new ledger. Who counts nothing gives `Blank::new(1)` to a
+    /// function that makes its count from it.
     pub fn new(blank: Blank) -> Steps<L>
         requires name { blank.name ≡ L.name }
         requires parts { blank.parts ≡ L.parts }

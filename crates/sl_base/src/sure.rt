@@ -11,7 +11,8 @@ use crate::store::{GetFault, PutFault, Store};
 use std::alloc::Global;
 use std::marker::Model;
 
-/// A store in memory that never fails: its count of faults is always 0, so that no answer of it is `Failed`.
+/// A store in memory that never fails: its count of faults is always 0, so that no answer of it is
+/// `Failed`.
 #[derive(Debug, Drop)]
 pub struct SureStore {
     files: Vec<(String, Vec<u8>)>,
@@ -31,7 +32,8 @@ impl Model for SureStore {
 }
 
 impl SureStore {
-    /// A store with these names and bytes, where the first file of a name counts. It takes no memory.
+    /// A store with these names and bytes, where the first file of a name counts. It takes no
+    /// memory.
     pub fn new(files: Vec<(String, Vec<u8>)>) -> SureStore
         ensures { result ≡ files_of files.items }
     {
@@ -63,7 +65,8 @@ impl Store for SureStore {
     }
 }
 
-/// A sink that takes and drops all that it is given, and never fails: its count of faults is always 0.
+/// A sink that takes and drops all that it is given, and never fails: its count of faults is always
+/// 0.
 #[derive(Clone, Copy, Debug)]
 pub struct SureSink;
 

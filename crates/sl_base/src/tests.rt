@@ -124,7 +124,8 @@ fn sinks_in_memory(rt: HostRuntime) -> Result<(), Fail> {
     Ok(())
 }
 
-/// The answer to a call that gives four bytes and has room for three, and what stands in the room afterwards.
+/// The answer to a call that gives four bytes and has room for three, and what stands in the room
+/// afterwards.
 fn answered<W: World>(world: &mut W, number: u32, descriptor: u32) -> (u32, [u8; 3])
     requires { (number ≡ 63) ⊎ (number ≡ 64) ⊎ (number ≡ 278) }
 {
@@ -284,7 +285,8 @@ fn the_outside_of_a_process(rt: HostRuntime) -> Result<(), Fail> {
     Ok(())
 }
 
-/// A reader and writer that a signal interrupts at each other call, and that moves one byte at each call else.
+/// A reader and writer that a signal interrupts at each other call, and that moves one byte at each
+/// call else.
 #[derive(Drop)]
 struct Interrupted {
     calls: u64,

@@ -1,6 +1,8 @@
 mod Rows
 pub mod Meanings
 pub mod Values
+pub mod PagesLaws
+pub mod MarksLaws
 pub mod Memory
 pub mod Steps
 pub mod Counted

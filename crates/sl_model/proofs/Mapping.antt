@@ -10,7 +10,7 @@ use Rattle.std.proofs.lemmas.Grind.{common_steps}
 use Rattle.std.proofs.lemmas.List.{length-replicate}
 use Rattle.std.proofs.lemmas.List.Elements.{All-nil, All-cons}
 use Rattle.sl_model.specs.Pages.{Pages, ArePages, IsPage}
-use Rattle.sl_model.specs.PagesLaws.{AreWhole}
+use Rattle.sl_model.proofs.PagesLaws.{AreWhole}
 use Rattle.sl_model.specs.Mapping.{zero_page, map_page, map_pages}
 
 -- ---- which pages stand in memory then

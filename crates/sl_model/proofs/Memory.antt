@@ -14,7 +14,7 @@ use Rattle.std.proofs.lemmas.List.Elements.{All-get_or, All-set, All-head, All-t
 use Rattle.std.proofs.lemmas.Option.{slice_get-get_or, slice_get_past, slice_get_within}
 use Rattle.sl_model.specs.Pages.{Pages, IsPage, ArePages, byte_at, bytes_at, set_byte, set_bytes, from_bytes, low_bytes, load_at, store_at}
 use Rattle.sl_model.specs.Stores.{IsElsewhere, IsStored}
-use Rattle.sl_model.specs.PagesLaws.{AreWhole, load_at-suc, is_some-byte_at, is_some-bytes_at, is_some-set_bytes, get-set_byte_other, length-low_bytes, All-low_bytes}
+use Rattle.sl_model.proofs.PagesLaws.{AreWhole, load_at-suc, is_some-byte_at, is_some-bytes_at, is_some-set_bytes, get-set_byte_other, length-low_bytes, All-low_bytes}
 use Rattle.sl_model.proofs.WholePages.{AreWhole-set_bytes}
 
 -- ---- what is loaded

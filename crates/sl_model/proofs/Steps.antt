@@ -10,7 +10,7 @@ use Rattle.sl_model.specs.declared.instr.LoadOp.{LoadOp}
 use Rattle.sl_model.specs.declared.instr.Instr.{Instr}
 use Rattle.sl_model.specs.declared.instr.Instr.TheVariants.{Lui, Auipc, Jal, Jalr, Branch, Load, Store, OpImm, Shift, Op, MulDiv, Fence, Ecall, Ebreak}
 use Rattle.sl_model.specs.Pages.{Pages, ArePages, load_at, store_at}
-use Rattle.sl_model.specs.PagesLaws.{AreWhole}
+use Rattle.sl_model.proofs.PagesLaws.{AreWhole}
 use Rattle.sl_model.specs.Words.{IsWord, HasBits, meaning}
 use Rattle.sl_model.specs.Arithmetic.{word_add, branch_word, is_taken, load_width, load_value, store_width, upper_word, immediate_word, immediate_value, shift_value, register_value, mul_div_value, jump_word}
 use Rattle.sl_model.specs.State.{State, IsState, register, set_register}

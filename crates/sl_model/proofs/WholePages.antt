@@ -9,7 +9,7 @@ use Rattle.std.proofs.lemmas.Grind.{common_steps}
 use Rattle.std.proofs.lemmas.List.{append-nil, drop_all}
 use Rattle.std.proofs.Math.ListN.{length-set}
 use Rattle.sl_model.specs.Pages.{Pages, ArePages, IsPage, bytes_at, set_byte, set_bytes, put_bytes}
-use Rattle.sl_model.specs.PagesLaws.{AreWhole, bytes_at-in_page, set_bytes-in_page, put_bytes-between}
+use Rattle.sl_model.proofs.PagesLaws.{AreWhole, bytes_at-in_page, set_bytes-in_page, put_bytes-between}
 
 -- ---- a page that is written whole
 

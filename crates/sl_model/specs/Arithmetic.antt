@@ -1,5 +1,5 @@
--- What the operations of RV32IM give, on words from 0 to 2 ^ 32 - 1 ("RV32I Base Integer Instruction
--- Set" and the "M" extension).
+-- What the operations of RV32IM give, on words from 0 to 2 ^ 32 - 1 ("RV32I Base Integer
+-- Instruction Set" and the "M" extension).
 use Rattle.std.specs.Prelude.{ℕ, ◌+◌, ◌-◌, ◌*◌, ◌/◌, ◌%◌, ◌^◌, ◌==◌, if◌then◌else◌, nat_lt, not, Bool, int_lt, int_div, int_rem, bit_and, bit_or, bit_xor, ℤ, pos, negsuc, ◌*ℤ◌}
 use Rattle.std.specs.Int.{w32, w64, cast_signed, cast_unsigned, int_shr}
 use Rattle.sl_model.specs.declared.instr.BranchOp.{BranchOp}
@@ -110,8 +110,9 @@ register_value And a b = bit_and a b
 abbrev pub upper_half : ℤ → ℕ
 upper_half product = cast_unsigned w64 product / 2 ^ 32
 
--- Division rounds towards zero, and a remainder has the sign of the dividend. By zero the quotient is
--- all ones and the remainder the dividend. The least number by -1 gives itself, with the remainder 0.
+-- Division rounds towards zero, and a remainder has the sign of the dividend. By zero the quotient
+-- is all ones and the remainder the dividend. The least number by -1 gives itself, with the
+-- remainder 0.
 abbrev pub mul_div_value : MulDivOp → ℕ → ℕ → ℕ
 mul_div_value Mul a b = (a * b) % 2 ^ 32
 mul_div_value Mulh a b = upper_half (signed a *ℤ signed b)

@@ -14,9 +14,10 @@ abbrev pub store_by : State → Option Instr → Option (ℕ × ℕ)
 store_by s (Some (Store op rs1 rs2 offset)) = Some (address s rs1 offset, store_width op)
 store_by s instr = None
 
--- the same of the instruction at pc: None where pc is no multiple of 4, a byte there is not mapped, or
--- the word there is no store
+-- the same of the instruction at pc: None where pc is no multiple of 4, a byte there is not mapped,
+-- or the word there is no store
 unfoldable pub next_store : State → Option (ℕ × ℕ)
 next_store s =
-    if s.pc % 4 == 0 then option_and_then (λ word. store_by s (meaning word)) (load_at s.pages s.pc 4)
+    if s.pc % 4 == 0
+    then option_and_then (λ word. store_by s (meaning word)) (load_at s.pages s.pc 4)
     else None

@@ -35,7 +35,8 @@ bytes_at pages address (suc count) =
 unfoldable pub set_byte : Pages → ℕ → ℕ → Pages
 set_byte pages address b =
     let number : ℕ = address / PAGE_SIZE in
-    let with_byte : List ℕ → Pages = λ page. insert pages number (slice_set page (address % PAGE_SIZE) b) in
+    let with_byte : List ℕ → Pages =
+    λ page. insert pages number (slice_set page (address % PAGE_SIZE) b) in
     unwrap_or (option_map with_byte (get pages number)) pages
 
 -- a page with these bytes from an index on

@@ -70,8 +70,8 @@ abbrev pub is_outside_heap : Layout → ℕ → Bool
 is_outside_heap layout page =
     not (nat_le layout.brk_start (page * PAGE_SIZE) && nat_lt (page * PAGE_SIZE) layout.heap_limit)
 
--- Memory and heap are laid out as a program's: all pages are below the end of memory, those of the heap
--- are mapped exactly below its mapped end, and at most 12,288 pages lie outside of it.
+-- Memory and heap are laid out as a program's: all pages are below the end of memory, those of the
+-- heap are mapped exactly below its mapped end, and at most 12,288 pages lie outside of it.
 pub record Fits (s : State) : Type 0 where
   pub layout : FitsLayout s.layout
   pub mapped_end : s.brk_end % PAGE_SIZE ≡ 0
@@ -83,8 +83,8 @@ pub record Fits (s : State) : Type 0 where
       → IsSome (get s.pages page) ↔ (page * PAGE_SIZE < s.brk_end)
   pub few : length (filter (is_outside_heap s.layout) (keys s.pages)) ≤ MOST_LOADED_PAGES
 
--- A program before its first instruction: a state that fits and runs, with no instruction done, no call
--- answered, and none of its heap mapped.
+-- A program before its first instruction: a state that fits and runs, with no instruction done, no
+-- call answered, and none of its heap mapped.
 pub record IsOpening (s : State) : Type 0 where
   pub state : IsState s
   pub fits : Fits s

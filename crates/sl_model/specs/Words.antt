@@ -1,5 +1,5 @@
--- The instruction words of RV32IM, by the instruction table of the RISC-V Unprivileged ISA. A word is a
--- number below 2 ^ 32.
+-- The instruction words of RV32IM, by the instruction table of the RISC-V Unprivileged ISA. A word
+-- is a number below 2 ^ 32.
 use Rattle.std.specs.Prelude.{◌≡◌, ℕ, ◌+◌, ◌-◌, ◌*◌, ◌/◌, ◌%◌, ◌^◌, ◌<◌, ◌==◌, ◌&&◌, if◌then◌else◌, Option, Some, None}
 use Rattle.std.specs.Option.{option_map}
 use Rattle.sl_model.specs.declared.opcodes.TheConstants as opcodes

@@ -16,15 +16,15 @@ pub trait Bus {
     /// Whether what changes is marked.
     ghost is_marking: { Self → Bool };
 
-    /// The little-endian number in the `width` bytes at an address, with no sign; `None` exactly where one of
-    /// them is not mapped.
+    /// The little-endian number in the `width` bytes at an address, with no sign; `None` exactly
+    /// where one of them is not mapped.
     fn load(&self, addr: u32, width: u8) -> Option<u32>
         requires { IsWidth width }
         ensures value { result ≡ load_at (pages self.now) addr width }
         ensures fits { IfSome result (λ n. n < 256 ^ width) };
 
-    /// Writes the low `width` bytes of a value at an address, the lowest first. `false` comes exactly where one
-    /// of them is not mapped, and then nothing changed.
+    /// Writes the low `width` bytes of a value at an address, the lowest first. `false` comes
+    /// exactly where one of them is not mapped, and then nothing changed.
     fn store(&mut self, addr: u32, width: u8, value: u32) -> bool
         requires { IsWidth width }
         ensures mapped { result ≡ is_some (store_at (pages self.old) addr width value) }

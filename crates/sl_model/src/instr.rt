@@ -1,5 +1,6 @@
-//! The instructions of RV32IM, as the RISC-V Unprivileged ISA lists them ("RV32/64G Instruction Set Listings").
-//! Immediates are kept as the bits that stand in the word; what they mean, sign-extended, is a matter of the step.
+//! The instructions of RV32IM, as the RISC-V Unprivileged ISA lists them ("RV32/64G Instruction Set
+//! Listings"). Immediates are kept as the bits that stand in the word; what they mean,
+//! sign-extended, is a matter of the step.
 
 use crate::bits::Bits;
 

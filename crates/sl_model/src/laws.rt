@@ -45,8 +45,8 @@ pub fn operations_give_words()
         → n < 256 ^ value.load_width op → IsWord (value.load_value op n) }
 {}
 
-/// A load of the bytes that were stored gives the value that was stored, every other byte stays, and no page is mapped
-/// or unmapped. A store is done exactly where a load of the same bytes is.
+/// A load of the bytes that were stored gives the value that was stored, every other byte stays,
+/// and no page is mapped or unmapped. A store is done exactly where a load of the same bytes is.
 pub fn stores_are_loaded()
     ensures done { (pages : Pages) (address width value : ℕ)
         → is_some (store_at pages address width value) ≡ is_some (load_at pages address width) }

@@ -6,7 +6,8 @@ pub const PAGE_SIZE: u32 = 4096;
 /// The address at which a program's memory ends: none of its pages goes beyond.
 pub const MEMORY_END: u32 = 0xBFFF_F000;
 
-/// The pages of the memory that a program may have: pages from this number on are never a program's.
+/// The pages of the memory that a program may have: pages from this number on are never a
+/// program's.
 pub const PROGRAM_PAGES: u32 = 0xBFFFF;
 
 /// The address of the lowest byte of the stack.

@@ -1,5 +1,5 @@
-//! The machine as definitions: its state, the instruction words and the step of RV32IM, and the bus that a step
-//! reads and writes through.
+//! The machine as definitions: its state, the instruction words and the step of RV32IM, and the bus
+//! that a step reads and writes through.
 #![tactic(auto)]
 
 mod bits;

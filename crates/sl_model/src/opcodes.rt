@@ -1,5 +1,5 @@
-//! The opcodes, bits 6 to 0 of a word, by their names in the RISC-V Unprivileged ISA ("RISC-V base opcode map"), and
-//! what else names an instruction whole.
+//! The opcodes, bits 6 to 0 of a word, by their names in the RISC-V Unprivileged ISA ("RISC-V base
+//! opcode map"), and what else names an instruction whole.
 
 pub const LOAD: u32 = 0b0000011;
 

@@ -1,4 +1,5 @@
-//! The numbers of traps, each the code of its exception in the RISC-V Privileged ISA ("Machine Cause Register").
+//! The numbers of traps, each the code of its exception in the RISC-V Privileged ISA ("Machine
+//! Cause Register").
 
 /// pc, or the target of a jump that is taken, is no multiple of 4.
 pub const MISALIGNED: u32 = 0;

@@ -38,7 +38,8 @@ fn is_plain_trace(options: &TraceOptions<'_>) -> bool
     options.workers == 1 && is_all(&options.analyses)
 }
 
-/// Does a command but for its file and its text. Words of commands that are not built yet name none.
+/// Does a command but for its file and its text. Words of commands that are not built yet name
+/// none.
 fn done_by<'a, S: Store>(
     alloc: Global,
     order: &Order<'a>,
@@ -106,8 +107,8 @@ fn run<S: Store, O: Sink>(alloc: Global, words: &[String], store: &mut S, out: &
 
 /// Does the command that the words name. It returns for every command, and waits on nothing.
 ///
-/// The text of a command goes to `out`, and its line of refusal to `err`. `world` is asked by the command that records,
-/// and `gate` is told of each claim of an epoch.
+/// The text of a command goes to `out`, and its line of refusal to `err`. `world` is asked by the
+/// command that records, and `gate` is told of each claim of an epoch.
 pub fn sledge<R: Threads + Sync, S: Store, W: World, O: Sink, E: Sink, G: Gate>(
     _rt: &R,
     alloc: Global,

@@ -38,8 +38,8 @@ fn all_posts(alloc: Global, trays: Vec<Seq<Post>>) -> Result<Vec<Post>, AllocErr
     Ok(posts)
 }
 
-/// What tracers leave on the run of a plan's recording, or its first break. Each epoch is replayed by itself, and the
-/// posts are merged. Steps are counted on a ledger of their own.
+/// What tracers leave on the run of a plan's recording, or its first break. Each epoch is replayed
+/// by itself, and the posts are merged. Steps are counted on a ledger of their own.
 pub fn run_plan<L: Ledger>(
     alloc: Global,
     plan: &Plan,

@@ -136,7 +136,8 @@ fn checkpoints_of(alloc: Global, rec: Recording, image: &Image) -> Result<Checkp
     Ok(Checkpoints::new(alloc, rec, machine, frames))
 }
 
-/// A recording and its image, cut into at most so many epochs, or into one for each interval between checkpoints.
+/// A recording and its image, cut into at most so many epochs, or into one for each interval
+/// between checkpoints.
 fn plan_of(
     alloc: Global,
     rec: Recording,
@@ -162,7 +163,8 @@ fn plan_of(
     })
 }
 
-/// The report of a recording and its image, with register a0 recorded wherever pc is at the address.
+/// The report of a recording and its image, with register a0 recorded wherever pc is at the
+/// address.
 fn traced_from(
     alloc: Global,
     rec: Recording,
@@ -225,7 +227,8 @@ fn recorded_in<S: Store>(
     Ok(recorded(alloc, &bytes)?)
 }
 
-/// `trace RECORDING at HEX`: the report of a recording, with register a0 recorded wherever pc is at the address.
+/// `trace RECORDING at HEX`: the report of a recording, with register a0 recorded wherever pc is at
+/// the address.
 pub fn trace_at<'a, S: Store>(
     alloc: Global,
     name: &str,
@@ -262,7 +265,8 @@ pub fn replay<'a, S: Store>(alloc: Global, name: &str, store: &mut S) -> Result<
     Ok(Done { text, put: None })
 }
 
-/// `check RECORDING`: how many calls and checkpoints a recording has, and where it ends. It is not replayed.
+/// `check RECORDING`: how many calls and checkpoints a recording has, and where it ends. It is not
+/// replayed.
 pub fn check<'a, S: Store>(alloc: Global, name: &str, store: &mut S) -> Result<Done<'a>, Failure>
     ensures answer { IfSome (S.told store.old) (λ files.
         Comes done_view result (check files name.now)) }

@@ -21,7 +21,8 @@ fn words(out: &mut Vec<u8>, numbers: &[u32]) -> Result<(), AllocError> {
     Ok(())
 }
 
-/// A program of 12 bytes at 0x10000: the file header, a program header at 52 and the bytes at 84, 96 bytes in all.
+/// A program of 12 bytes at 0x10000: the file header, a program header at 52 and the bytes at 84,
+/// 96 bytes in all.
 fn one(alloc: Global) -> Result<Vec<u8>, AllocError> {
     let mut out = b"\x7fELF\x01\x01\x01\0\0\0\0\0\0\0\0\0\x02\0\xf3\0".to_vec(alloc)?;
     words(&mut out, &[1, 0x10000, 52, 0, 0, 0x20_0034, 0x28_0001, 0])?;
@@ -30,8 +31,8 @@ fn one(alloc: Global) -> Result<Vec<u8>, AllocError> {
     Ok(out)
 }
 
-/// The same with a symbol table at 96 that names `main` and `n`, the string table at 144 and three section headers at
-/// 156, 196 and 236, 276 bytes in all.
+/// The same with a symbol table at 96 that names `main` and `n`, the string table at 144 and three
+/// section headers at 156, 196 and 236, 276 bytes in all.
 fn named(alloc: Global) -> Result<Vec<u8>, AllocError> {
     let mut out = one(alloc)?;
     words(&mut out, &[0; 4])?;

@@ -17,8 +17,8 @@ pub fn fault_of(alloc: Global, file: &[u8]) -> Option<RecFault> {
     }
 }
 
-/// Recipes of broken recordings, each with the place and the cause of its first fault. A line that begins with `#` is a
-/// heading.
+/// Recipes of broken recordings, each with the place and the cause of its first fault. A line that
+/// begins with `#` is a heading.
 const BROKEN: &str = "\
 # Name and version.
 plain; keep 0 | 0 Short

@@ -22,7 +22,8 @@ pub fn checkpoint(out: &mut Vec<u8>, count: u32, pc: u32) -> Result<(), AllocErr
     words(out, &[0x11000, 0x11000, 0, 0])
 }
 
-/// The front of that program's recording: no arguments, no calls, and so many checkpoints to follow.
+/// The front of that program's recording: no arguments, no calls, and so many checkpoints to
+/// follow.
 pub fn front(alloc: Global, checkpoints: u32) -> Result<Vec<u8>, AllocError> {
     let mut out = b"SLDGREC1".to_vec(alloc)?;
     words(&mut out, &[0, 0x10000, 12, 0x0050_0513, 0x05d0_0893, 0x73])?;
@@ -36,16 +37,18 @@ pub fn end(out: &mut Vec<u8>, count: u32) -> Result<(), AllocError> {
     checkpoint(out, count, 0x1000c)
 }
 
-/// That program's recording without checkpoints before the end, 204 bytes: its image at 20, the number of arguments at 32,
-/// of calls at 36, of checkpoints at 40, the end at 44 and 48, its checkpoint at 52 with the number of pages at 200.
+/// That program's recording without checkpoints before the end, 204 bytes: its image at 20, the
+/// number of arguments at 32, of calls at 36, of checkpoints at 40, the end at 44 and 48, its
+/// checkpoint at 52 with the number of pages at 200.
 pub fn plain(alloc: Global) -> Result<Vec<u8>, AllocError> {
     let mut out = front(alloc, 0)?;
     end(&mut out, 3)?;
     Ok(out)
 }
 
-/// That program's recording with a checkpoint at count 2, 356 bytes: the checkpoint at 44 with the number of pages at 192,
-/// the end at 196 and 200, its checkpoint at 204 with the number of pages at 352.
+/// That program's recording with a checkpoint at count 2, 356 bytes: the checkpoint at 44 with the
+/// number of pages at 192, the end at 196 and 200, its checkpoint at 204 with the number of pages
+/// at 352.
 pub fn saved(alloc: Global) -> Result<Vec<u8>, AllocError> {
     let mut out = front(alloc, 1)?;
     checkpoint(&mut out, 2, 0x10008)?;

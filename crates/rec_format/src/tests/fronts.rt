@@ -8,8 +8,9 @@ use std::alloc::Global;
 use std::process::Abort;
 use std::test::Fail;
 
-/// A recording with each kind of field, 8,605 bytes: the arguments `ab` and one of no bytes, a call that writes `hi` and a
-/// line feed, a checkpoint at count 2 that lists page 17, and an end that lists it with other bytes.
+/// A recording with each kind of field, 8,605 bytes: the arguments `ab` and one of no bytes, a call
+/// that writes `hi` and a line feed, a checkpoint at count 2 that lists page 17, and an end that
+/// lists it with other bytes.
 pub const EACH_FIELD: &str =
     "saved; word 352 1; page 356 17 8; word 192 1; page 196 17 7; word 36 1; \
     put 40 64 0 0 0 1 0 0 0 0 16 1 0 3 0 0 0; fill 56 0 12; put 68 3 0 0 0 3 0 0 0 104 105 10; \
@@ -44,7 +45,8 @@ fn each_field_may_be_short(rt: HostRuntime) -> Result<(), Fail> {
         // The number of calls; number, arguments, result and length of the first; its data.
         (10, 4),
         (1, 3),
-        // The number of checkpoints; a count; pc, 31 registers, both breaks, next call, number of pages, a page; its bytes.
+        // The number of checkpoints; a count; pc, 31 registers, both breaks, next call, number of
+        // pages, a page; its bytes.
         (1, 4),
         (1, 8),
         (37, 4),

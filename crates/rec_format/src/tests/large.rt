@@ -82,7 +82,8 @@ fn many_pages(alloc: Global) -> Result<Recording, AllocError>
     })
 }
 
-/// It would have 40 bytes, 152 for each of four checkpoints, and 4,100 for each page. Nothing is made of it.
+/// It would have 40 bytes, 152 for each of four checkpoints, and 4,100 for each page. Nothing is
+/// made of it.
 #[test]
 fn a_run_that_is_too_large(rt: HostRuntime) -> Result<(), Fail> {
     let rec = many_pages(rt.alloc())?;

@@ -8,7 +8,8 @@ use call_log::End;
 use std::process::Abort;
 use std::test::Fail;
 
-/// The state of the program that loads 5 into a0 and exits, after its second instruction or its third.
+/// The state of the program that loads 5 into a0 and exits, after its second instruction or its
+/// third.
 fn check_state(rt: &impl Abort, state: &CheckpointData, count: u64, pc: u32) {
     let mut x = [0; 31];
     x[1] = 0x7fff_ffe0;

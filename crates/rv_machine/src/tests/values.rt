@@ -1,4 +1,5 @@
-//! The values of operations: zero, the greatest values, the edge of the sign, and what divides by zero.
+//! The values of operations: zero, the greatest values, the edge of the sign, and what divides by
+//! zero.
 
 use super::one_page::OnePage;
 use super::{LEAST, ONES, PLACE, run, value, x};

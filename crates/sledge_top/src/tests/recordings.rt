@@ -111,9 +111,9 @@ fn push_line(out: &mut Vec<u8>, line: &str) -> Result<(), Fail> {
 
 /// The bytes of a recipe, a line for each part of a recording. Numbers are hexadecimal.
 ///
-/// `words W ..` adds numbers of four bytes and `bytes B ..` bytes, `page NUMBER OFFSET B ..` a page that is zeros but for
-/// these bytes, and `at COUNT PC PAGES R=VALUE ..` a checkpoint whose other registers are those of the opening state. There
-/// `20=1` is the index of the next call.
+/// `words W ..` adds numbers of four bytes and `bytes B ..` bytes, `page NUMBER OFFSET B ..` a page
+/// that is zeros but for these bytes, and `at COUNT PC PAGES R=VALUE ..` a checkpoint whose other
+/// registers are those of the opening state. There `20=1` is the index of the next call.
 pub fn recording(alloc: Global, recipe: &str) -> Result<Vec<u8>, Fail> {
     let mut bytes = b"SLDGREC1".to_vec(alloc)?;
     for line in recipe.lines() {

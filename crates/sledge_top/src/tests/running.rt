@@ -27,8 +27,8 @@ pub fn store_of(
     Ok(MemoryStore::new(files, Vec::from_slice(alloc, failing)?))
 }
 
-/// The number, the first and the second output of a command over the file `a.rec`, as one text: the number, a blank,
-/// and what was written.
+/// The number, the first and the second output of a command over the file `a.rec`, as one text: the
+/// number, a blank, and what was written.
 fn told<R: Threads + Sync>(
     rt: &R,
     alloc: Global,
@@ -49,7 +49,8 @@ fn told<R: Threads + Sync>(
     Ok(text)
 }
 
-/// Whether a command over the file `a.rec` ends with the number that begins this text, and writes the rest.
+/// Whether a command over the file `a.rec` ends with the number that begins this text, and writes
+/// the rest.
 pub fn tells<R: Threads + Sync>(
     rt: &R,
     alloc: Global,

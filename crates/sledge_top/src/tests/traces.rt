@@ -248,7 +248,8 @@ fn exchange(bytes: &mut Vec<u8>, place: usize, value: u8) -> u8 {
     }
 }
 
-/// One byte of `EXITS_IN_TWO` is another: its place, the hexadecimal value, and how the command ends.
+/// One byte of `EXITS_IN_TWO` is another: its place, the hexadecimal value, and how the command
+/// ends.
 const LIES: &str = "\
 7 32 => 4 sledge: recording broken at 7: Version
 8 1 => 4 sledge: recording broken at 12: Range
@@ -337,9 +338,9 @@ fn filled(alloc: Global, text: &str, hole: char, value: &str) -> Result<String, 
     Ok(whole)
 }
 
-/// A program that stores a word at 0x7fffffe4, with a checkpoint behind each instruction. The one behind the store lists
-/// the page, with a byte as the word's lowest. x6 before the store is left open as `?`, that byte as `!` and the end's value
-/// as `%`.
+/// A program that stores a word at 0x7fffffe4, with a checkpoint behind each instruction. The one
+/// behind the store lists the page, with a byte as the word's lowest. x6 before the store is left
+/// open as `?`, that byte as `!` and the end's value as `%`.
 const STORED: &str = "\
 words 0 10000 14 01020337 30430313 00612223 05d00893 73 0 0 4
 at 1 10004 0 6=1020000
@@ -385,8 +386,8 @@ fn cuttings(rt: HostRuntime) -> Result<(), Fail> {
     Ok(())
 }
 
-/// Programs of two instructions, recorded to end after one: the instructions, the end, the pages that it lists, and how
-/// the command ends.
+/// Programs of two instructions, recorded to end after one: the instructions, the end, the pages
+/// that it lists, and how the command ends.
 const BROKEN: &str = "\
 00212023 00100073; 1 3; 0; 9 sledge: checkpoint 1 differs at count 1, part 35, at 0x7fffffe0: recorded 0x00000000, replayed 0x000000e0
 00000013 00100073; 1 3; 1|page 5 0 1; 9 sledge: checkpoint 1 differs at count 1, part 36, at 0x00005000: recorded 0x00000001, replayed 0x00000000

@@ -3,7 +3,7 @@ use Rattle.std.specs.Prelude.{Option}
 use Rattle.std.specs.FinMap.{get, insert}
 use Rattle.sl_model.specs.Mapping.{zero_page}
 use Rattle.page_frames.proofs.Ranges.{pages-with_page}
-use Rattle.sl_model.specs.PagesLaws.{insert-insert}
+use Rattle.sl_model.proofs.PagesLaws.{insert-insert}
 use Rattle.sl_model.proofs.Mapping.{map_page_new}
 use Rattle.sl_model.proofs.WholePages.{length-page, page_mapped, set_page, get-inserted}
 use Rattle.checkpoints.proofs.copies.copy_page.Goals as goal
