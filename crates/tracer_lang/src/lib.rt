@@ -1,6 +1,10 @@
-//! Tracers: what one leaves where it fires.
+//! Tracers: scripts as trees, and what a tracer leaves where it fires.
 #![tactic(auto)]
 
 mod record;
+mod script;
+mod tree;
 
 pub use record::{Record, TracerEnd};
+pub use script::Script;
+pub use tree::{Args, Block, Expr, Function, Operator, Point, Stmt, Tracepoint};
