@@ -55,7 +55,8 @@ abbrev mutual
       1 + max (expression_depth first) (expression_depth second)
   expression_depth (is_zero of) = 1 + expression_depth of
   expression_depth (call function arguments) = 1 + arguments_depth arguments
-  expression_depth (system_call code value) = 1 + max (expression_depth code) (expression_depth value)
+  expression_depth (system_call code value) =
+      1 + max (expression_depth code) (expression_depth value)
 
   pub arguments_depth : Arguments → ℕ
   arguments_depth no_arguments = 0
@@ -68,8 +69,10 @@ abbrev mutual
   statement_depth (block body) = 1 + statements_depth body
   statement_depth (choice condition first second) =
       1 + max (expression_depth condition) (max (statement_depth first) (statement_depth second))
-  statement_depth (while condition body) = 1 + max (expression_depth condition) (statements_depth body)
-  statement_depth (store op address value) = 1 + max (expression_depth address) (expression_depth value)
+  statement_depth (while condition body) =
+      1 + max (expression_depth condition) (statements_depth body)
+  statement_depth (store op address value) =
+      1 + max (expression_depth address) (expression_depth value)
   statement_depth (return value) = 1 + expression_depth value
   statement_depth (stop value) = 1 + expression_depth value
   statement_depth (run value) = 1 + expression_depth value

@@ -110,7 +110,8 @@ abbrev mutual
 
   pub statements_of : Block → Statements
   statements_of more_block.End = no_statements
-  statements_of (more_block.And' p first q rest) = statement (statement_of first) (statements_of rest)
+  statements_of (more_block.And' p first q rest) =
+      statement (statement_of first) (statements_of rest)
 
 abbrev pub function_of : Function → FunctionTree
 function_of f = record { parameters = f.parameters; locals = f.locals; body = statements_of f.body }

@@ -10,13 +10,14 @@ use sl_base::Seq;
 /// A script as a tree, within the limits that its type keeps.
 #[derive(Drop)]
 pub struct Script {
-    /// How many turns of loops and entries of functions one call of a tracer may take: 1 to 1,000,000.
+    /// How many turns of loops and entries of functions one call of a tracer may take, 1 to
+    /// 1,000,000.
     pub budget: u32,
     /// The functions, in order of the text.
     pub functions: Seq<Function>,
     /// The tracepoints, in order of the text: at most 64.
     pub tracepoints: Seq<Tracepoint>,
-    ghost within_limits: { IsWithinLimits (script_of budget functions tracepoints) } by { IsWithinLimits-prop (script_of budget functions tracepoints) },
+    ghost limits: { IsWithinLimits (script_of budget functions tracepoints) } by { IsWithinLimits-prop _ },
 }
 
 impl Script {
