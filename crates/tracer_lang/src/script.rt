@@ -17,7 +17,8 @@ pub struct Script {
     pub functions: Seq<Function>,
     /// The tracepoints, in order of the text: at most 64.
     pub tracepoints: Seq<Tracepoint>,
-    ghost limits: { IsWithinLimits (script_of budget functions tracepoints) } by { IsWithinLimits-prop _ },
+    ghost limits: { IsWithinLimits
+        (script_of budget functions tracepoints) } by { IsWithinLimits-prop _ },
 }
 
 impl Script {

@@ -20,12 +20,25 @@ pub enum Node {
 
 /// Nodes in order.
 #[cycle(nodes)]
-#[derive(Drop)]
 pub enum Nodes {
     /// No more.
     End,
     /// A node, and those after it.
     And(Box<Node>, Box<Nodes>),
+}
+
+/// A list may have as many nodes as a script, so it goes piece by piece and not by recursion. What
+/// stands in its nodes goes by recursion, by at most as many levels as lists may be open.
+impl Drop for Nodes {
+    #[cycle(nodes)]
+    fn drop(mut self) {
+        loop {
+            match self {
+                Nodes::End => return,
+                Nodes::And(_, rest) => self = Box::into_inner(rest),
+            }
+        }
+    }
 }
 
 /// The nodes of tokens whose parentheses have partners. They are made from the last token on: a closing parenthesis
