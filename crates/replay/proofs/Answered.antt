@@ -20,7 +20,8 @@ use Rattle.call_log.specs.declared.ask.CallDiff.{CallDiff}
 use Rattle.call_log.specs.declared.entry.CallEntry.{CallEntry}
 use Rattle.call_log.specs.Differences.{field_diff, call_diff, answer_diff, first_difference, due_result, due_length}
 use Rattle.call_log.proofs.Options.{first_none, second_none}
-use Rattle.replay.specs.Calls.{call_of, is_exit, is_outside, buffer, room, brk_number, brk_answer, brk_mapped_end, is_break, brk_done, data_done, call_done, arg, answered, moved_on, fixed_result, ask_with, IsAnswerTo, IsDue}
+use Rattle.sl_model.specs.Heap.{brk_answer, is_break}
+use Rattle.replay.specs.Calls.{call_of, is_exit, is_outside, buffer, room, brk_number, brk_mapped_end, brk_done, data_done, call_done, arg, answered, moved_on, fixed_result, ask_with, IsAnswerTo, IsDue}
 use Rattle.replay.proofs.InRun.{new_end}
 
 -- ---- the place behind a call

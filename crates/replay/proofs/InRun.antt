@@ -17,7 +17,8 @@ use Rattle.call_log.specs.declared.entry.CallEntry.{CallEntry}
 use Rattle.call_log.specs.Differences.{first_difference}
 use Rattle.rec_format.specs.declared.recording.Recording.{Recording}
 use Rattle.replay.specs.Opening.{round_up}
-use Rattle.replay.specs.Calls.{call_of, ask_of, exited, answered, is_outside, data_done, call_done, brk_done, brk_mapped_end, is_break, arg, buffer, brk_number}
+use Rattle.sl_model.specs.Heap.{is_break}
+use Rattle.replay.specs.Calls.{call_of, ask_of, exited, answered, is_outside, data_done, call_done, brk_done, brk_mapped_end, arg, buffer, brk_number}
 use Rattle.replay.specs.Run.{Onward, Goes, Breaks, onward, onward_in, stepped, asked, called, matched}
 use Rattle.sl_base.specs.declared.call.Call.{Call}
 use Rattle.sl_base.specs.World.{write_number}

@@ -1,5 +1,5 @@
 -- System calls in a replay: what a program asks, and the state after an answer.
-use Rattle.std.specs.Prelude.{◌≡◌, ℕ, ◌+◌, ◌-◌, ◌/◌, ◌==◌, ◌&&◌, ◌||◌, Bool, List, [], ◌∷◌, min, max, map, Option, Some, None, is_some, unwrap_or, slice_index, nat_le, if◌then◌else◌}
+use Rattle.std.specs.Prelude.{◌≡◌, ℕ, ◌+◌, ◌-◌, ◌/◌, ◌==◌, ◌||◌, Bool, List, [], ◌∷◌, min, max, map, Option, Some, None, is_some, unwrap_or, slice_index, if◌then◌else◌}
 use Rattle.sl_base.specs.declared.call.Call.{Call}
 use Rattle.sl_base.specs.World.{read_number, write_number, getrandom_number, error_result}
 use Rattle.sl_model.specs.declared.run_state.RunState.TheVariants.{Exited}
@@ -11,6 +11,7 @@ use Rattle.call_log.specs.declared.entry.CallEntry.{CallEntry}
 use Rattle.call_log.specs.Differences.{first_difference}
 use Rattle.replay.specs.Opening.{round_up}
 use Rattle.sl_model.specs.Mapping.{map_pages}
+use Rattle.sl_model.specs.Heap.{is_break, brk_answer}
 
 -- ---- the call at an ECALL
 
@@ -49,15 +50,6 @@ abbrev pub room : Call → ℕ
 room call = min (if call.number == getrandom_number then arg call 1 else arg call 2) 65536
 
 -- ---- the break
-
--- a break that a program may set
-abbrev pub is_break : State → ℕ → Bool
-is_break s address =
-    nat_le s.layout.brk_start address && nat_le address s.layout.heap_limit
-
--- what the call answers
-abbrev pub brk_answer : State → ℕ → ℕ
-brk_answer s address = if is_break s address then address else s.brk
 
 -- the end of the mapped heap after it
 abbrev pub brk_mapped_end : State → ℕ → ℕ

@@ -3,7 +3,8 @@
 ghost use Rattle.std.specs.Prelude.{◌≡◌, ◌≤◌, Some, IsSome, IfOk};
 ghost use Rattle.sl_model.specs.Pages.{Pages, bytes_at};
 ghost use Rattle.rv_machine.specs.Machine.{state_of};
-ghost use Rattle.replay.specs.Calls.{call_of, is_exit, is_outside, buffer, room, brk_answer, fixed_result, given, ask_of};
+ghost use Rattle.sl_model.specs.Heap.{brk_answer};
+ghost use Rattle.replay.specs.Calls.{call_of, is_exit, is_outside, buffer, room, fixed_result, given, ask_of};
 
 use crate::copying::bytes_in;
 use call_log::Ask;

@@ -2,3 +2,4 @@ pub mod Tree
 pub mod Limits
 pub mod OneProof
 pub mod Script
+pub mod Meaning
