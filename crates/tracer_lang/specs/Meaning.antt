@@ -1,7 +1,7 @@
 -- What a tracer does where it fires: its meaning on a private copy of the machine's memory. Of each
 -- statement and expression the parts are evaluated from left to right, and the tests are tried in
 -- the order in which they stand here.
-use Rattle.std.specs.Prelude.{ℕ, zero, suc, ◌+◌, ◌-◌, ◌==◌, ◌&&◌, List, [], ◌∷◌, ◌++◌, length, replicate, Option, Some, None, slice_index, slice_index_or, slice_set, nat_lt, nat_le, if◌then◌else◌}
+use Rattle.std.specs.Prelude.{ℕ, zero, suc, ◌+◌, ◌-◌, ◌==◌, ◌&&◌, List, [], ◌∷◌, ◌++◌, length, replicate, Option, Some, None, slice_index, slice_index_or, slice_set, nat_lt, if◌then◌else◌}
 use Rattle.sl_model.specs.declared.instr.LoadOp.{LoadOp}
 use Rattle.sl_model.specs.declared.instr.StoreOp.{StoreOp}
 use Rattle.sl_model.specs.Pages.{Pages, load_at, store_at}
