@@ -8,3 +8,4 @@ pub mod Copied
 pub mod Stored
 pub mod Loaded
 pub mod Ranges
+pub mod Walks

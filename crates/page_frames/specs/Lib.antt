@@ -1,2 +1,3 @@
 pub mod MarkedPages
+pub mod DirtyWalk
 pub mod Fields

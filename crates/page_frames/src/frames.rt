@@ -7,6 +7,7 @@ ghost use Rattle.sl_model.specs.Pages.{IsWidth, byte_at, bytes_at, load_at, stor
 ghost use Rattle.sl_model.specs.Mapping.{map_page, map_pages};
 ghost use Rattle.sl_model.specs.Marks.{MarksGoOn};
 ghost use Rattle.sl_model.specs.declared.layout.TheConstants.{PROGRAM_PAGES, MOST_PAGES};
+ghost use Rattle.page_frames.specs.DirtyWalk.{left_to_walk, walk_from};
 ghost use Rattle.page_frames.specs.MarkedPages.{IsKept, with_page, with_pages, with_bytes};
 
 use crate::frame::{Frame, PAGE_LEN, bytes_of};
@@ -211,6 +212,19 @@ impl Frames {
         ensures next { IfSome at (λ page. (i : ℕ)
             → slice_get self.now.dirty i ≡ Some page → result ≡ slice_get self.now.dirty (i + 1)) }
         ensures dirty { IfSome result (Contains self.now.dirty) }
+        ensures walk { left_to_walk self.now.dirty at ≡ walk_from self.now.dirty result }
+    {
+        self.dirty_behind(at)
+    }
+
+    /// The first dirty page, or the one in the place behind that of `at`.
+    fn dirty_behind(&self, at: Option<u32>) -> Option<u32>
+        requires { IfSome at (Contains self.now.dirty) }
+        ensures first { IfNone at (result ≡ slice_get self.now.dirty 0) }
+        ensures next { IfSome at (λ page. (i : ℕ)
+            → slice_get self.now.dirty i ≡ Some page → result ≡ slice_get self.now.dirty (i + 1)) }
+        ensures dirty { IfSome result (Contains self.now.dirty) }
+        ensures kept { IsKept self.now }
     {
         let index = match at {
             None => 0,

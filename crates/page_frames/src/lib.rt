@@ -3,7 +3,9 @@
 
 mod frame;
 mod frames;
+mod laws;
 #[cfg(test)]
 mod tests;
 
 pub use frames::Frames;
+pub use laws::walk_gives_each_dirty_page_once;
