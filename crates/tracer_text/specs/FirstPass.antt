@@ -20,8 +20,8 @@ most_depth = 64
 abbrev pub is_stray : ℕ → Bool
 is_stray b = not (is_run_byte b || b == 40 || b == 41)
 
--- The rule that a token breaks which begins with a byte at a place, behind so many nodes and with so many lists open:
--- the first of these.
+-- The rule that a token breaks which begins with a byte at a place, behind so many nodes and with
+-- so many lists open: the first of these.
 abbrev pub cause_at : ℕ → ℕ → ℕ → ℕ → Option ScriptCause
 cause_at place b nodes depth =
     if is_stray b then Some Byte

@@ -26,8 +26,8 @@ abbrev mutual
   trees_of End = no_trees
   trees_of (And' p node q nodes) = tree (tree_of node) (trees_of nodes)
 
--- Of tokens that stand within some lists: the nodes up to the end of the innermost one, and for each further one those
--- between its inner list and its end.
+-- Of tokens that stand within some lists: the nodes up to the end of the innermost one, and for
+-- each further one those between its inner list and its end.
 pub record Standing : Type 0 where
   pub inside : Trees
   pub outside : List Trees
@@ -53,4 +53,5 @@ before b token standing =
 -- the nodes of these tokens of a text
 abbrev pub nodes_from : List ℕ → List Token → Standing
 nodes_from text [] = record { inside = no_trees; outside = [] }
-nodes_from text (token ∷ tokens) = before (slice_index text token.place) token (nodes_from text tokens)
+nodes_from text (token ∷ tokens) =
+    before (slice_index text token.place) token (nodes_from text tokens)

@@ -11,8 +11,8 @@ is_blank b = b == 32 || b == 9 || b == 13 || b == 10
 abbrev pub is_run_byte : ℕ → Bool
 is_run_byte b = nat_le 0x21 b && nat_le b 0x7E && not (b == 40 || b == 41 || b == 59)
 
--- How many of the bytes after it belong to what a byte begins: a semicolon begins a comment, which goes on to the next
--- LF; a name or a number goes on over its bytes; any other byte stands alone.
+-- How many of the bytes after it belong to what a byte begins: a semicolon begins a comment, which
+-- goes on to the next LF; a name or a number goes on over its bytes; any other byte stands alone.
 abbrev pub more_of : ℕ → List ℕ → ℕ
 more_of b bs =
     if b == 59 then prefix_len (λ c. not (c == 10)) bs
@@ -34,8 +34,8 @@ tokens_from skipped place [] = []
 tokens_from (suc skipped) place (b ∷ bs) = tokens_from skipped (place + 1) bs
 tokens_from zero place (b ∷ bs) = token_at place b bs ++ tokens_from (more_of b bs) (place + 1) bs
 
--- The tokens of a text, in order: names and numbers, parentheses, and each byte that can stand in none of them. A name
--- or a number is a longest run of its bytes.
+-- The tokens of a text, in order: names and numbers, parentheses, and each byte that can stand in
+-- none of them. A name or a number is a longest run of its bytes.
 abbrev pub tokens_of : List ℕ → List Token
 tokens_of text = tokens_from 0 0 text
 

@@ -41,8 +41,8 @@ impl Drop for Nodes {
     }
 }
 
-/// The nodes of tokens whose parentheses have partners. They are made from the last token on: a closing parenthesis
-/// begins the inside of a list, and its partner ends it.
+/// The nodes of tokens whose parentheses have partners. They are made from the last token on: a
+/// closing parenthesis begins the inside of a list, and its partner ends it.
 pub fn nodes_of(alloc: Global, text: &[u8], tokens: &[Token]) -> Result<Nodes, Memory>
     requires { All (IsWithin (length text.now)) tokens.now }
     ensures { IfOk result (λ nodes. trees_of nodes ≡ (nodes_from text.now tokens.now).inside) }

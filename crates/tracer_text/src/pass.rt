@@ -25,7 +25,8 @@ fn is_stray(byte: u8) -> bool
     !(is_run_byte(byte) || byte == b'(' || byte == b')')
 }
 
-/// The rule that a token breaks which begins with this byte, behind so many nodes and with so many lists open.
+/// The rule that a token breaks which begins with this byte, behind so many nodes and with so many
+/// lists open.
 fn cause_at(place: u32, byte: u8, nodes: u32, depth: u32) -> Option<ScriptCause>
     ensures { result ≡ cause_at place byte nodes depth }
 {
