@@ -1,5 +1,8 @@
-pub mod Views
+pub mod Newest
+pub mod Tables
+pub mod Changes
 pub mod Places
+pub mod Counts
 pub mod Kept
 pub mod Marking
 pub mod Changed

@@ -1,8 +1,6 @@
 -- A number from its bytes, the first one and the others.
 use Rattle.std.proofs.Common.{◌≡◌, ℕ, suc, ◌+◌, ◌-◌, ◌*◌, ◌/◌, ◌%◌, ◌^◌, ◌<◌, ◌≤◌, Some, None, refl, ap, ◌∙◌, sym, arith, take, drop, lit<}
 use Rattle.std.specs.Option.{option_map, option_and_then}
-use Rattle.std.specs.Ordering.{nat_cmp}
-use Rattle.std.specs.BTreeMap.{get}
 use Rattle.std.specs.FinMap as map
 use Rattle.std.proofs.Math.Nat.{pow-succ', pow-le-pow_right}
 use Rattle.sl_model.specs.Pages.{Pages, IsPage, byte_at, load_at, bytes_at, from_bytes}
@@ -11,7 +9,9 @@ use Rattle.page_frames.specs.declared.frame.Frame.{Frame}
 use Rattle.page_frames.specs.declared.frames.Frames.TheInside.{Inside}
 use Rattle.page_frames.specs.MarkedPages.{MarkedPages}
 use Rattle.page_frames.specs.Fields.{AreFields, marked_pages_of}
-use Rattle.page_frames.proofs.Views.{get-pages_of}
+use Rattle.page_frames.specs.Linked.{frame_of}
+use Rattle.page_frames.proofs.Tables.{get-pages_of}
+use Rattle.page_frames.proofs.Kept.{whole}
 
 pub no_bytes : (pages : Pages) (address count : ℕ) → count ≡ 0 → Some 0 ≡ load_at pages address count
 unfolding load_at bytes_at
@@ -45,14 +45,14 @@ word_fits count n few fits =
 
 -- ---- in one page
 
-pub load_at-unmapped : (a : Inside) (m : MarkedPages) (address count : ℕ) → marked_pages_of a ≡ m → 0 < count → None ≡ get nat_cmp a.frames (address / 4096) → None ≡ load_at m.pages address count
+pub load_at-unmapped : (a : Inside) (m : MarkedPages) (address count : ℕ) → marked_pages_of a ≡ m → 0 < count → None ≡ frame_of a.table (address / 4096) → None ≡ load_at m.pages address count
 load_at-unmapped a m address count view some none =
-    let unmapped : map.get m.pages (address / 4096) ≡ None = ap (λ v. map.get v.pages (address / 4096)) (sym view) ∙ get-pages_of a.frames (address / 4096) ∙ ap (option_map (λ f. f.bytes)) (sym none) in
+    let unmapped : map.get m.pages (address / 4096) ≡ None = ap (λ v. map.get v.pages (address / 4096)) (sym view) ∙ get-pages_of a.table (address / 4096) ∙ ap (option_map (λ f. f.bytes)) (sym none) in
     sym (load_at-none m.pages address count unmapped some)
 
-pub load_at-mapped : (a : Inside) (m : MarkedPages) (address count : ℕ) (frame : Frame) → AreFields a → marked_pages_of a ≡ m → Some frame ≡ get nat_cmp a.frames (address / 4096) → address % 4096 + count ≤ 4096
+pub load_at-mapped : (a : Inside) (m : MarkedPages) (address count : ℕ) (frame : Frame) → AreFields a → marked_pages_of a ≡ m → Some frame ≡ frame_of a.table (address / 4096) → address % 4096 + count ≤ 4096
     → Some (from_bytes (take count (drop (address % 4096) frame.bytes))) ≡ load_at m.pages address count
 load_at-mapped a m address count frame are view found within =
-    let mapped : map.get m.pages (address / 4096) ≡ Some frame.bytes = ap (λ v. map.get v.pages (address / 4096)) (sym view) ∙ get-pages_of a.frames (address / 4096) ∙ ap (option_map (λ f. f.bytes)) (sym found) in
-    let is : IsPage frame.bytes = rw (← found) at (are.whole (address / 4096)) in
+    let mapped : map.get m.pages (address / 4096) ≡ Some frame.bytes = ap (λ v. map.get v.pages (address / 4096)) (sym view) ∙ get-pages_of a.table (address / 4096) ∙ ap (option_map (λ f. f.bytes)) (sym found) in
+    let is : IsPage frame.bytes = rw (← found) at (whole a.table (address / 4096) are.table) in
     sym (load_at-in_page m.pages address count frame.bytes mapped is.whole within)

@@ -1,3 +1,4 @@
 pub mod MarkedPages
 pub mod DirtyWalk
+pub mod Linked
 pub mod Fields

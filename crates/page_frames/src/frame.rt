@@ -1,29 +1,47 @@
 //! One page.
 
-ghost use Rattle.std.specs.Prelude.{◌≡◌, ◌+◌, ◌<◌, ◌≤◌, ◌^◌, length, take, drop, replicate, Some, vec_len, vec_capacity, IfNone};
+ghost use Rattle.std.specs.Prelude.{◌≡◌, ◌+◌, ◌<◌, ◌≤◌, ◌^◌, length, take, drop};
+ghost use Rattle.std.specs.Prelude.{vec_len, vec_capacity, IfNone};
 ghost use Rattle.sl_model.specs.Pages.{IsWidth, from_bytes, low_bytes, put_bytes};
 
 /// The bytes of a page.
 pub(crate) const PAGE_LEN: usize = 4096;
 
-/// A page that is mapped.
+/// A page that is mapped, or a spare one.
 #[derive(Drop)]
 pub(crate) struct Frame {
     pub(crate) bytes: [u8; 4096],
+    /// The number of the page.
+    pub(crate) page: u32,
+    /// The index of the next frame of its bucket, which is lower than its own.
+    pub(crate) next: Option<u32>,
     /// Its index in the list of dirty pages, where it stands there.
     pub(crate) place: Option<usize>,
 }
 
 impl Frame {
-    /// A page of zeros, which is dirty.
-    pub(crate) fn zeros(place: usize) -> Frame
-        ensures bytes { result.bytes ≡ replicate 4096 0 }
-        ensures place { result.place ≡ Some place }
-    {
+    /// A spare frame.
+    pub(crate) fn spare() -> Frame {
         Frame {
             bytes: [0; 4096],
-            place: Some(place),
+            page: 0,
+            next: None,
+            place: None,
         }
+    }
+
+    /// Makes the frame that of a page, with other contents.
+    pub(crate) fn fill(&mut self, page: u32, next: Option<u32>, place: Option<usize>, bytes: &[u8])
+        requires { length bytes.now ≡ 4096 }
+        ensures bytes { self.new.bytes ≡ bytes.now }
+        ensures page { self.new.page ≡ page }
+        ensures next { self.new.next ≡ next }
+        ensures place { self.new.place ≡ place }
+    {
+        self.page = page;
+        self.next = next;
+        self.place = place;
+        self.bytes.copy_from_slice(bytes);
     }
 
     /// The number in `width` bytes, the lowest first.
@@ -52,6 +70,8 @@ impl Frame {
         requires width { IsWidth width }
         requires within { offset + width ≤ 4096 }
         ensures bytes { self.new.bytes ≡ put_bytes self.old.bytes offset (low_bytes width value) }
+        ensures page { self.new.page ≡ self.old.page }
+        ensures next { self.new.next ≡ self.old.next }
         ensures place { self.new.place ≡ self.old.place }
     {
         let bytes = bytes_of(value);
@@ -71,6 +91,8 @@ impl Frame {
     pub(crate) fn copy_in(&mut self, offset: usize, bytes: &[u8])
         requires { offset + length bytes.now ≤ 4096 }
         ensures bytes { self.new.bytes ≡ put_bytes self.old.bytes offset bytes.now }
+        ensures page { self.new.page ≡ self.old.page }
+        ensures next { self.new.next ≡ self.old.next }
         ensures place { self.new.place ≡ self.old.place }
     {
         self.bytes[offset..offset + bytes.len()].copy_from_slice(bytes);
@@ -82,15 +104,18 @@ impl Frame {
 
     /// Marks the page as dirty, where it is not.
     #[inline(always)]
-    pub(crate) fn mark(&mut self, dirty: &mut Vec<u32>, page: u32)
+    pub(crate) fn mark(&mut self, dirty: &mut Vec<u32>)
         requires { IfNone self.old.place (vec_len dirty.old < vec_capacity dirty.old) }
         ensures bytes { self.new.bytes ≡ self.old.bytes }
+        ensures page { self.new.page ≡ self.old.page }
+        ensures next { self.new.next ≡ self.old.next }
         ensures room { vec_capacity dirty.old ≤ vec_capacity dirty.new }
-        ensures marks { Marks self.old.place self.new.place page dirty.old.items dirty.new.items }
+        ensures marks { let page = self.old.page in
+            Marks self.old.place self.new.place page dirty.old.items dirty.new.items }
     {
         if self.place.is_none() {
             self.place = Some(dirty.len());
-            dirty.push_reserved(page);
+            dirty.push_reserved(self.page);
         }
     }
 }

@@ -4,23 +4,33 @@ ghost use Rattle.std.specs.Prelude.{◌≡◌, ℕ, ◌+◌, ◌-◌, ◌<◌, �
 ghost use Rattle.std.specs.Option.{option_copied};
 ghost use Rattle.std.specs.FinMap.{get, len, empty};
 ghost use Rattle.sl_model.specs.Pages.{IsWidth, byte_at, bytes_at, load_at, store_at, low_bytes};
-ghost use Rattle.sl_model.specs.Mapping.{map_page, map_pages};
+ghost use Rattle.sl_model.specs.Mapping.{map_page, map_pages, zero_page};
 ghost use Rattle.sl_model.specs.Marks.{MarksGoOn};
 ghost use Rattle.sl_model.specs.declared.layout.TheConstants.{PROGRAM_PAGES, MOST_PAGES};
 ghost use Rattle.page_frames.specs.DirtyWalk.{left_to_walk, walk_from};
 ghost use Rattle.page_frames.specs.MarkedPages.{IsKept, with_page, with_pages, with_bytes};
 
-use crate::frame::{Frame, PAGE_LEN, bytes_of};
+use crate::frame::{PAGE_LEN, bytes_of};
+use crate::table::Table;
 use sl_base::Memory;
-use sl_model::Bus;
+use sl_model::{Bus, PROGRAM_PAGES};
 use std::alloc::Global;
-use std::collections::BTreeMap;
 use std::marker::Model;
+
+/// The bytes of `zeros`.
+static ZEROS: [u8; 4096] = [0; 4096];
+
+/// A page of zeros.
+fn zeros() -> &'static [u8]
+    ensures { result.now ≡ zero_page }
+{
+    &ZEROS
+}
 
 /// The mapped pages of a program, at most 16,384, with the list of those that changed, which are called dirty.
 #[derive(Drop)]
 pub struct Frames {
-    frames: BTreeMap<u32, Frame>,
+    table: Table,
     dirty: Vec<u32>,
 }
 
@@ -45,7 +55,7 @@ impl Frames {
         ensures dirty { IfOk result (λ f. f.dirty ≡ []) }
     {
         Ok(Frames {
-            frames: BTreeMap::new(alloc),
+            table: Table::new(alloc),
             dirty: Vec::new(alloc),
         })
     }
@@ -58,14 +68,23 @@ impl Frames {
         ensures one_more { len self.new.pages ≤ len self.old.pages + 1 }
         ensures err { OnErr result (self.new ≡ self.old) }
     {
-        if self.frames.contains_key(&page) {
+        if self.table.find(page).is_some() {
             return Ok(());
         }
         let place = self.dirty.len();
-        self.dirty.reserve(self.frames.len() + 1 - place)?;
-        self.frames.insert(page, Frame::zeros(place))?;
+        self.dirty.reserve(self.table.used as usize + 1 - place)?;
+        self.table.make_spare()?;
+        self.table.add(page, Some(place), zeros());
         self.dirty.push_reserved(page);
         Ok(())
+    }
+
+    /// Nothing is mapped any more, and nothing is dirty. The frames are kept for pages to come.
+    pub fn reset(&mut self)
+        ensures { self.new ≡ record { pages = empty; dirty = [] } }
+    {
+        self.table.reset();
+        self.dirty.clear();
     }
 
     /// Maps pages of zeros, so many from one on, as `map_page` maps one. After an `Err` some of them are mapped.
@@ -100,7 +119,7 @@ impl Frames {
         let mut addr = u64::from(addr);
         let mut left = u64::from(len);
         while left > 0 {
-            if !self.frames.contains_key(&((addr / 4096) as u32)) {
+            if self.table.find((addr / 4096) as u32).is_none() {
                 return false;
             }
             let count = in_page(addr, left);
@@ -111,12 +130,12 @@ impl Frames {
     }
 
     /// The bytes of a page, or `None` where it is not mapped.
-    #[tactic(auto, using(crate::proofs::Views::get_pages))]
+    #[tactic(auto, using(crate::proofs::Tables::get_pages))]
     pub fn page(&self, page: u32) -> Option<&[u8]>
         ensures bytes { option_copied result ≡ get self.now.pages page }
         ensures kept { IsKept self.now }
     {
-        let frame = self.frames.get(&page)?;
+        let frame = self.table.get(page)?;
         Some(frame.bytes.as_slice())
     }
 
@@ -128,8 +147,12 @@ impl Frames {
         ensures least { IfSome result (λ next. (page : ℕ)
             → from ≤ page → page < next → get self.now.pages page ≡ None) }
     {
-        let (page, _) = self.frames.range(from..).next()?;
-        Some(*page)
+        for page in from..PROGRAM_PAGES {
+            if self.table.find(page).is_some() {
+                return Some(page);
+            }
+        }
+        None
     }
 
     /// Writes bytes from an address on, and marks their pages as dirty, as a store does.
@@ -157,12 +180,12 @@ impl Frames {
         ensures bytes { self.new ≡ with_bytes self.old addr bytes.now }
         ensures address { addr < 2 ^ 32 }
     {
-        let page = (addr / 4096) as u32;
-        let Some(frame) = self.frames.get_mut(&page) else {
+        let Some(index) = self.table.find((addr / 4096) as u32) else {
             unreachable!()
         };
+        let frame = &mut self.table.frames[index as usize];
         frame.copy_in((addr % 4096) as usize, bytes);
-        frame.mark(&mut self.dirty, page);
+        frame.mark(&mut self.dirty);
     }
 
     /// No page is dirty any more.
@@ -191,9 +214,10 @@ impl Frames {
         let Some(page) = self.dirty.pop() else {
             unreachable!()
         };
-        let Some(frame) = self.frames.get_mut(&page) else {
+        let Some(index) = self.table.find(page) else {
             unreachable!()
         };
+        let frame = &mut self.table.frames[index as usize];
         frame.place = None;
     }
 
@@ -228,18 +252,18 @@ impl Frames {
     {
         let index = match at {
             None => 0,
-            Some(page) => self.frames.get(&page)?.place? + 1,
+            Some(page) => self.table.get(page)?.place? + 1,
         };
         self.dirty.get(index).copied()
     }
 
     /// The byte at an address, or `None` where it is not mapped.
-    #[tactic(auto, using(crate::proofs::Views::get_pages), unfolding(sl_model::specs::Pages::byte_at))]
+    #[tactic(auto, using(crate::proofs::Tables::get_pages), unfolding(sl_model::specs::Pages::byte_at))]
     fn byte(&self, addr: u64) -> Option<u8>
         requires { addr < 2 ^ 33 }
         ensures { result ≡ byte_at self.now.pages addr }
     {
-        let frame = self.frames.get(&((addr / 4096) as u32))?;
+        let frame = self.table.get((addr / 4096) as u32)?;
         Some(frame.bytes[(addr % 4096) as usize])
     }
 }
@@ -290,12 +314,12 @@ impl Frames {
         if offset + usize::from(width) > PAGE_LEN {
             return self.store_across(addr, &bytes_of(value)[..width as usize]);
         }
-        let page = addr / 4096;
-        let Some(frame) = self.frames.get_mut(&page) else {
+        let Some(index) = self.table.find(addr / 4096) else {
             return false;
         };
+        let frame = &mut self.table.frames[index as usize];
         frame.store(offset, width, value);
-        frame.mark(&mut self.dirty, page);
+        frame.mark(&mut self.dirty);
         true
     }
 }
@@ -313,7 +337,7 @@ impl Bus for Frames {
         if offset + usize::from(width) > PAGE_LEN {
             return self.load_across(u64::from(addr), width);
         }
-        let frame = self.frames.get(&(addr / 4096))?;
+        let frame = self.table.get(addr / 4096)?;
         Some(frame.load(offset, width))
     }
 

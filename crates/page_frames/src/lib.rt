@@ -4,6 +4,7 @@
 mod frame;
 mod frames;
 mod laws;
+mod table;
 #[cfg(test)]
 mod tests;
 

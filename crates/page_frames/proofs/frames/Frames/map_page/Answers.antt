@@ -1,44 +1,89 @@
-use Rattle.std.proofs.Common.{◌≡◌, ◌≤◌, ◌<◌, ◌++◌, ◌∷◌, [], ◌∙◌, sym, ap, arith, length, None, Some}
-use Rattle.std.specs.Ordering.{nat_cmp}
-use Rattle.std.specs.BTreeMap.{get, btree_map_len}
-use Rattle.std.specs.FinMap as map
-use Rattle.page_frames.specs.Fields.{marked_pages_of, pages_of}
-use Rattle.sl_model.specs.declared.layout.TheConstants.{MOST_PAGES}
-use Rattle.page_frames.proofs.Kept.{length-le-frames, mapped}
-use Rattle.page_frames.proofs.Mapped.{with_page-mapped, AreFields-same, AreFields-mapped, len-with_page, view-mapped, none_found, none_or_one}
+use Rattle.std.proofs.Common.{◌≡◌, ◌≤◌, ◌<◌, ◌++◌, ◌∷◌, [], ◌∙◌, sym, ap, arith, length, None, Some, refl, false, true, rules}
 use Rattle.std.specs.Prelude.{is_some}
+use Rattle.std.specs.FinMap as map
+use Rattle.sl_model.specs.Pages.{IsPage}
+use Rattle.sl_model.specs.declared.layout.TheConstants.{MOST_PAGES}
+use Rattle.sl_model.proofs.Mapping.{IsPage-zeros}
+use Rattle.page_frames.specs.declared.frame.Frame.{Frame}
+use Rattle.page_frames.specs.declared.frames.Frames.TheInside.{Inside}
+use Rattle.page_frames.specs.Fields.{marked_pages_of}
+use Rattle.page_frames.specs.Linked.{frame_of, index_of, pages_of}
+use Rattle.page_frames.proofs.Kept.{length-le-frames, mapped}
+use Rattle.page_frames.proofs.Changes.{IsTable-grown, frame_of-grown, len-pages_of}
+use Rattle.page_frames.proofs.Mapped.{with_page-mapped, AreFields-grown, view-grown, AreFields-mapped, len-with_page, view-mapped, no_frame, is_some-index}
 use Rattle.page_frames.proofs.frames.Frames.map_page.Goals as goal
 
-pub returns-then-contains_key-clause-ok : goal.returns-then-contains_key-clause-ok
-returns-then-contains_key-clause-ok c = with_page-mapped c.self.inside c.args.self.now c.args.page c.self.view_is (sym c.contains_key.ensures ∙ c.if-contains_key.true)
+pub returns-then-is_some-clause-ok : goal.returns-then-is_some-clause-ok
+returns-then-is_some-clause-ok c =
+    with_page-mapped c.self.inside c.args.self.now c.args.page c.self.view_is
+    (sym (is_some-index c.self.inside.table c.args.page) ∙ ap is_some (sym c.find.ensures.index) ∙ sym c.if-is_some.ensures)
 
-pub overflow_sub-len : goal.overflow_sub-len
-overflow_sub-len c =
-    let few : length c.self.inside.dirty.items ≤ btree_map_len c.self.inside.frames = length-le-frames c.self.invariant.places c.self.inside.frames (mapped c.self.inside.frames) in
-    omega (arith, c.self.inside.dirty.ok.0, c.len.ensures.len, c.len-place.ensures)
+pub overflow_sub-self-inside : goal.overflow_sub-self-inside
+overflow_sub-self-inside c =
+    let few : length c.self.inside.dirty.items ≤ c.self.inside.table.used = length-le-frames c.self.invariant.places c.self.inside.table (mapped c.self.inside.table) in
+    omega (arith, c.self.inside.dirty.ok.0, c.len-place.ensures)
 
-pub invariant_of-self-in_err-insert : goal.invariant_of-self-in_err-insert
-invariant_of-self-in_err-insert c = AreFields-same c.self.inside _ c.self.invariant c.in_err-insert.ensures.err c.reserve.ensures.items c.reserve.ensures.capacity
+pub invariant_of-self-in_err-make_spare : goal.invariant_of-self-in_err-make_spare
+invariant_of-self-in_err-make_spare c =
+    let after : Inside = record { table = c.make_spare.new.self; dirty = c.reserve.new.self } in
+    AreFields-grown c.self.inside after c.self.invariant c.make_spare.ensures.grown c.reserve.ensures.items c.reserve.ensures.capacity
+
+pub returns-in_err-make_spare-clause-one_more : goal.returns-in_err-make_spare-clause-one_more
+returns-in_err-make_spare-clause-one_more c =
+    let after : Inside = record { table = c.make_spare.new.self; dirty = c.reserve.new.self } in
+    let same = view-grown c.self.inside after c.self.invariant c.make_spare.ensures.grown c.reserve.ensures.items ∙ c.self.view_is in
+    omega (arith, ap (λ m. map.len m.pages) same)
+
+pub returns-in_err-make_spare-clause-err : goal.returns-in_err-make_spare-clause-err
+returns-in_err-make_spare-clause-err c =
+    let after : Inside = record { table = c.make_spare.new.self; dirty = c.reserve.new.self } in
+    let same : marked_pages_of after ≡ c.args.self.now = view-grown c.self.inside after c.self.invariant c.make_spare.ensures.grown c.reserve.ensures.items ∙ c.self.view_is in
+    search (rules, same)
+
+pub add-requires-clause-table : goal.add-requires-clause-table
+add-requires-clause-table c = IsTable-grown c.self.inside.table _ c.make_spare.ensures.grown c.self.invariant.table
+
+pub add-requires-clause-few : goal.add-requires-clause-few
+add-requires-clause-few c =
+    let room : map.len (pages_of c.self.inside.table) < MOST_PAGES = rw (← c.self.view_is) at c.requires.few in
+    omega (arith, len-pages_of c.self.inside.table c.self.invariant.table, c.make_spare.ensures.grown.used)
+
+pub add-requires-clause-new : goal.add-requires-clause-new
+add-requires-clause-new c =
+    frame_of-grown c.self.inside.table _ c.make_spare.ensures.grown c.self.invariant.table c.args.page
+    ∙ sym (no_frame c.self.inside.table c.args.page (ap is_some (sym c.find.ensures.index) ∙ sym c.if-is_some.ensures))
+
+pub add-requires-clause-whole : goal.add-requires-clause-whole
+add-requires-clause-whole c = rw c.zeros.ensures IsPage-zeros
 
 pub push_reserved-requires : goal.push_reserved-requires
 push_reserved-requires c =
-    let few : length c.self.inside.dirty.items ≤ btree_map_len c.self.inside.frames = length-le-frames c.self.invariant.places c.self.inside.frames (mapped c.self.inside.frames) in
-    omega (arith, c.self.inside.dirty.ok.0, c.len.ensures.len, c.len-place.ensures, c.in_ok-reserve.ensures.ok, c.reserve.ensures.len)
+    let few : length c.self.inside.dirty.items ≤ c.self.inside.table.used = length-le-frames c.self.invariant.places c.self.inside.table (mapped c.self.inside.table) in
+    omega (arith, few, c.self.inside.dirty.ok.0, c.len-place.ensures, c.in_ok-reserve.ensures.ok, c.reserve.ensures.len)
 
 pub invariant_of-self-2 : goal.invariant_of-self-2
 invariant_of-self-2 c =
-    let none : None ≡ get nat_cmp c.self.inside.frames c.args.page = none_found _ (sym c.contains_key.ensures ∙ c.if-contains_key.false) in
-    let few : length c.self.inside.dirty.items ≤ btree_map_len c.self.inside.frames = length-le-frames c.self.invariant.places c.self.inside.frames (mapped c.self.inside.frames) in
-    let room : map.len (pages_of c.self.inside.frames.entries) < MOST_PAGES = rw (← c.self.view_is) at c.requires.few in
-    AreFields-mapped c.self.inside _ c.args.page c.zeros.result c.self.invariant c.in_ok-insert.ensures.updates none c.zeros.ensures.bytes
-    (c.zeros.ensures.place ∙ ap Some (c.len-place.ensures ∙ c.self.inside.dirty.ok.0)) (c.push_reserved.ensures.items ∙ ap (λ ps. ps ++ c.args.page ∷ []) c.reserve.ensures.items) c.requires.below room
-    (omega (arith, c.self.inside.dirty.ok.0, c.len.ensures.len, c.len-place.ensures, c.in_ok-reserve.ensures.ok, c.reserve.ensures.len, c.push_reserved.ensures.capacity, c.in_ok-insert.ensures.len, none_or_one (is_some c.in_ok-insert.field-0)))
+    let t = c.self.inside.table in
+    let few : length c.self.inside.dirty.items ≤ t.used = length-le-frames c.self.invariant.places t (mapped t) in
+    let before : Inside = record { table = c.make_spare.new.self; dirty = c.reserve.new.self } in
+    let after : Inside = record { table = c.add.new.self; dirty = c.push_reserved.new.self } in
+    let are = AreFields-grown c.self.inside before c.self.invariant c.make_spare.ensures.grown c.reserve.ensures.items c.reserve.ensures.capacity in
+    AreFields-mapped before after c.args.page _ are c.add.ensures.table c.add.ensures.puts (sym (frame_of-grown t _ c.make_spare.ensures.grown c.self.invariant.table c.args.page
+    ∙ sym (no_frame t c.args.page (ap is_some (sym c.find.ensures.index) ∙ sym c.if-is_some.ensures))))
+    (ap Some (c.len-place.ensures ∙ c.self.inside.dirty.ok.0 ∙ ap length (sym c.reserve.ensures.items)))
+    c.push_reserved.ensures.items
+    (omega (arith, few, c.self.inside.dirty.ok.0, c.len-place.ensures, c.in_ok-reserve.ensures.ok, c.reserve.ensures.len, c.push_reserved.ensures.capacity, c.add.ensures.used, c.make_spare.ensures.grown.used))
 
 pub returns-clause-ok : goal.returns-clause-ok
 returns-clause-ok c =
-    let none : None ≡ get nat_cmp c.self.inside.frames c.args.page = none_found _ (sym c.contains_key.ensures ∙ c.if-contains_key.false) in
-    view-mapped c.self.inside (record { frames = c.insert.new.self; dirty = c.push_reserved.new.self }) c.args.self.now c.args.page c.zeros.result c.self.view_is c.in_ok-insert.ensures.updates none
-    c.zeros.ensures.bytes (c.push_reserved.ensures.items ∙ ap (λ ps. ps ++ c.args.page ∷ []) c.reserve.ensures.items)
+    let t = c.self.inside.table in
+    let before : Inside = record { table = c.make_spare.new.self; dirty = c.reserve.new.self } in
+    let after : Inside = record { table = c.add.new.self; dirty = c.push_reserved.new.self } in
+    let same : marked_pages_of before ≡ c.args.self.now = view-grown c.self.inside before c.self.invariant c.make_spare.ensures.grown c.reserve.ensures.items ∙ c.self.view_is in
+    view-mapped before after c.args.self.now c.args.page _ same c.add.ensures.puts (sym (frame_of-grown t _ c.make_spare.ensures.grown c.self.invariant.table c.args.page
+    ∙ sym (no_frame t c.args.page (ap is_some (sym c.find.ensures.index) ∙ sym c.if-is_some.ensures)))) c.zeros.ensures c.push_reserved.ensures.items
 
 pub returns-clause-one_more : goal.returns-clause-one_more
-returns-clause-one_more c = len-with_page c.args.self.now (marked_pages_of (record { frames = c.insert.new.self; dirty = c.push_reserved.new.self })) c.args.page (returns-clause-ok c)
+returns-clause-one_more c =
+    let after : Inside = record { table = c.add.new.self; dirty = c.push_reserved.new.self } in
+    len-with_page c.args.self.now (marked_pages_of after) c.args.page (returns-clause-ok c)

@@ -1,39 +1,75 @@
-use Rattle.std.proofs.Common.{◌≡◌, ℕ, ◌<◌, ◌≤◌, false, arith, refl, ap, sym, ◌∙◌, Some, None}
-use Rattle.std.specs.Prelude.{Option, IsSome}
+use Rattle.std.proofs.Common.{◌≡◌, ℕ, ◌<◌, ◌≤◌, ◌+◌, arith, refl, ap, sym, ◌∙◌, Some, None, ⊎_elim, false, true}
+use Rattle.std.specs.Prelude.{Option, IsSome, is_some}
 use Rattle.std.specs.Option.{option_map}
-use Rattle.std.specs.Ordering.{nat_cmp, is_gt}
-use Rattle.std.specs.BTreeMap.{get}
 use Rattle.std.specs.FinMap as map
-use Rattle.std.proofs.lemmas.Grind.{common_steps}
-use Rattle.page_frames.specs.declared.frame.Frame.{Frame}
+use Rattle.std.proofs.lemmas.Bool.{cases_lt}
+use Rattle.sl_model.specs.declared.layout.TheConstants.{PROGRAM_PAGES}
 use Rattle.page_frames.specs.declared.frames.Frames.TheInside.{Inside}
-use Rattle.page_frames.specs.Fields.{marked_pages_of}
+use Rattle.page_frames.specs.Fields.{AreFields, marked_pages_of}
+use Rattle.page_frames.specs.Linked.{IsTable, index_of, frame_of}
+use Rattle.page_frames.specs.declared.frame.Frame.{Frame}
+use Rattle.page_frames.specs.declared.table.Table.{Table}
 use Rattle.page_frames.specs.MarkedPages.{MarkedPages}
-use Rattle.page_frames.proofs.Views.{get-pages_of}
+use Rattle.page_frames.proofs.Tables.{get-pages_of}
+use Rattle.page_frames.proofs.Kept.{below}
+use Rattle.page_frames.proofs.Mapped.{no_frame, is_some-index}
 use Rattle.page_frames.proofs.frames.Frames.next_mapped.Goals as goal
 
-not_above : (a b : ℕ) → a ≤ b → is_gt (nat_cmp a b) ≡ false
-not_above a b le = grind (arith, common_steps)
-
 -- what the view has at a number
-seen : (a : Inside) (m : MarkedPages) (page : ℕ) (o : Option Frame) → marked_pages_of a ≡ m → get nat_cmp a.frames page ≡ o → map.get m.pages page ≡ option_map (λ f. f.bytes) o
-seen a m page o view is = ap (λ v. map.get v.pages page) (sym view) ∙ get-pages_of a.frames page ∙ ap (option_map (λ f. f.bytes)) is
+seen : (a : Inside) (m : MarkedPages) (page : ℕ) → marked_pages_of a ≡ m
+    → map.get m.pages page ≡ option_map (λ f. f.bytes) (frame_of a.table page)
+seen a m page view = ap (λ v. map.get v.pages page) (sym view) ∙ get-pages_of a.table page
 
--- a number below the first one of a range is not in the map
-below_first : (o : Option Frame) (first page : ℕ) → page < first → (IsSome o → is_gt (nat_cmp first page) ≡ false) → o ≡ None
-below_first None first page lt h = refl
-below_first (Some f) first page lt h = let not : is_gt (nat_cmp first page) ≡ false = h refl in grind (arith, common_steps)
+unseen : (a : Inside) (m : MarkedPages) (page : ℕ) → marked_pages_of a ≡ m
+    → is_some (index_of a.table.frames.items a.table.used page) ≡ false → map.get m.pages page ≡ None
+unseen a m page view none =
+    seen a m page view ∙ ap (option_map (λ f. f.bytes)) (sym (no_frame a.table page none))
 
-pub returns-in_err-page-clause-none : goal.returns-in_err-page-clause-none
-returns-in_err-page-clause-none c =
-    rw c.from_residual.ensures (λ page le. seen c.self.inside c.args.self.now page None c.self.view_is ((c.range.ensures.in_range tt).5 c.in_err-page.ensures.steps.0 page (not_above c.args.from page le, tt)))
+one_more : (a : Inside) (m : MarkedPages) (from page : ℕ) → marked_pages_of a ≡ m
+    → is_some (index_of a.table.frames.items a.table.used page) ≡ false
+    → ((q : ℕ) → from ≤ q → q < page → map.get m.pages q ≡ None)
+    → (q : ℕ) → from ≤ q → q < page + 1 → map.get m.pages q ≡ None
+one_more a m from page view none below q le lt = ⊎_elim
+    (λ (before : q < page). below q le before)
+    (λ (last : page ≤ q).
+    let same : q ≡ page = omega arith in
+    rw same (unseen a m page view none))
+    (cases_lt q page)
 
-pub returns-clause-mapped : goal.returns-clause-mapped
-returns-clause-mapped c =
-    let first = rw c.in_ok-page.ensures.steps at ((c.range.ensures.in_range tt).1) in
-    rw (seen c.self.inside c.args.self.now c.in_ok-page.page.now (Some c.in_ok-page.field-0-1.now) c.self.view_is first.1) refl
+pub loop-page-preserved : goal.loop-page-preserved
+loop-page-preserved c =
+    one_more c.self.inside c.args.self.now c.args.from c.loop-page.page c.self.view_is
+    (ap is_some (sym c.find.ensures.index) ∙ sym c.if-is_some.ensures) c.loop-page.invariant
 
-pub returns-clause-least : goal.returns-clause-least
-returns-clause-least c = λ page le lt.
-    seen c.self.inside c.args.self.now page None c.self.view_is
-    (below_first (get nat_cmp c.self.inside.frames page) c.in_ok-page.page.now page lt (λ found. rw c.in_ok-page.ensures.steps at ((c.range.ensures.in_range tt).2 page (not_above c.args.from page le, tt) found)))
+some_bytes : (o : Option Frame) → is_some o ≡ true → IsSome (option_map (λ f. f.bytes) o)
+some_bytes None is = is
+some_bytes (Some f) is = refl
+
+no_bytes : (t : Table) (page : ℕ) → IsTable t → PROGRAM_PAGES ≤ page → (o : Option Frame)
+    → frame_of t page ≡ o → option_map (λ f. f.bytes) o ≡ None
+no_bytes t page is beyond None at = refl
+no_bytes t page is beyond (Some f) at =
+    let low = below t page is (rw at refl) in
+    absurd (omega (arith, low))
+
+-- no page stands beyond the last page of a program
+beyond : (a : Inside) (m : MarkedPages) (page : ℕ) → AreFields a → marked_pages_of a ≡ m
+    → PROGRAM_PAGES ≤ page → map.get m.pages page ≡ None
+beyond a m page are view high =
+    seen a m page view ∙ no_bytes a.table page are.table high (frame_of a.table page) refl
+
+pub returns-then-is_some-clause-mapped : goal.returns-then-is_some-clause-mapped
+returns-then-is_some-clause-mapped c =
+    let page = c.loop-page.page in
+    let some : is_some (frame_of c.self.inside.table page) ≡ true =
+        sym (is_some-index c.self.inside.table page) ∙ ap is_some (sym c.find.ensures.index)
+        ∙ sym c.if-is_some.ensures in
+    rw (seen c.self.inside c.args.self.now page c.self.view_is)
+    (some_bytes (frame_of c.self.inside.table page) some)
+
+pub returns-clause-none : goal.returns-clause-none
+returns-clause-none c = λ q le. ⊎_elim
+    (λ (before : q < c.loop-page.page). c.loop-page.invariant q le before)
+    (λ (last : c.loop-page.page ≤ q).
+    beyond c.self.inside c.args.self.now q c.self.invariant c.self.view_is (omega arith))
+    (cases_lt q c.loop-page.page)
