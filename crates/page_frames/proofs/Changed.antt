@@ -18,8 +18,8 @@ use Rattle.page_frames.specs.declared.frame.Frame.{Frame}
 use Rattle.page_frames.specs.declared.table.Table.{Table}
 use Rattle.page_frames.specs.declared.frames.Frames.TheInside.{Inside}
 use Rattle.page_frames.specs.MarkedPages.{mark, mark_bytes, with_bytes}
-use Rattle.page_frames.specs.Linked.{IsTable, Puts, frame_of, index_of, pages_of}
-use Rattle.page_frames.specs.Fields.{AreFields, IsPlacing, Marks, place_of, marked_pages_of}
+use Rattle.page_frames.specs.Linked.{place_of, IsTable, Puts, frame_of, index_of, pages_of}
+use Rattle.page_frames.specs.Fields.{AreFields, IsPlacing, Marks, marked_pages_of}
 use Rattle.page_frames.proofs.Tables.{get-pages_of}
 use Rattle.page_frames.proofs.Kept.{whole, framed}
 use Rattle.page_frames.proofs.Changes.{IsWritten, Puts-written, IsTable-written, IsWritten-at, frame-read}
@@ -46,7 +46,7 @@ place_if : (b : Bool) (new : Frame) (o : Option Frame) → option_and_then (λ f
 place_if true new o = refl
 place_if false new o = refl
 
-place-put : {before after : Table} {page : ℕ} {new : Frame} → Puts before page new after → (q : ℕ) → place_of after q ≡ cond (eqb page q) new.place (place_of before q)
+pub place-put : {before after : Table} {page : ℕ} {new : Frame} → Puts before page new after → (q : ℕ) → place_of after q ≡ cond (eqb page q) new.place (place_of before q)
 place-put {before} {after} {page} {new} puts q = ap (option_and_then (λ f. f.place)) (puts.got q) ∙ place_if (eqb page q) new (frame_of before q)
 
 itself : (page : ℕ) → eqb page page ≡ true

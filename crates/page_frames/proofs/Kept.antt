@@ -13,8 +13,8 @@ use Rattle.sl_model.specs.Pages.{IsPage}
 use Rattle.page_frames.specs.declared.frame.Frame.{Frame}
 use Rattle.page_frames.specs.declared.table.Table.{Table}
 use Rattle.page_frames.specs.declared.frames.Frames.TheInside.{Inside}
-use Rattle.page_frames.specs.Linked.{IsTable, IsFrame, frame_of, pages_of, index_of}
-use Rattle.page_frames.specs.Fields.{AreFields, IsPlacing, place_of, marked_pages_of}
+use Rattle.page_frames.specs.Linked.{place_of, IsTable, IsFrame, frame_of, pages_of, index_of}
+use Rattle.page_frames.specs.Fields.{AreFields, IsPlacing, marked_pages_of}
 use Rattle.page_frames.specs.MarkedPages.{MarkedPages, IsKept}
 use Rattle.page_frames.proofs.Newest.{newest-found}
 use Rattle.page_frames.proofs.Tables.{get-pages_of, frame-linked, found}

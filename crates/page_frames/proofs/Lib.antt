@@ -8,6 +8,7 @@ pub mod Marking
 pub mod Changed
 pub mod Mapped
 pub mod Copied
+pub mod Copies
 pub mod Stored
 pub mod Loaded
 pub mod Ranges

@@ -15,8 +15,8 @@ use Rattle.page_frames.specs.declared.frame.Frame.{Frame}
 use Rattle.page_frames.specs.declared.table.Table.{Table}
 use Rattle.page_frames.specs.declared.frames.Frames.TheInside.{Inside}
 use Rattle.page_frames.specs.MarkedPages.{MarkedPages, with_page}
-use Rattle.page_frames.specs.Linked.{IsTable, IsGrown, Puts, frame_of, index_of, pages_of}
-use Rattle.page_frames.specs.Fields.{AreFields, IsPlacing, Marks, place_of, marked_pages_of}
+use Rattle.page_frames.specs.Linked.{place_of, IsTable, IsGrown, Puts, frame_of, index_of, pages_of}
+use Rattle.page_frames.specs.Fields.{AreFields, IsPlacing, Marks, marked_pages_of}
 use Rattle.page_frames.proofs.Tables.{get-pages_of, frame_at}
 use Rattle.page_frames.proofs.Kept.{whole, has_frame}
 use Rattle.page_frames.proofs.Changes.{IsTable-grown, frame_of-grown, pages_of-grown, IsWritten, Puts-written, IsTable-written, IsWritten-at}

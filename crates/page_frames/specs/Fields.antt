@@ -1,18 +1,12 @@
 -- What the fields of `Frames` stand for, and what holds of them.
 use Rattle.std.specs.Prelude.{◌≡◌, ℕ, ◌<◌, ◌≤◌, List, [], ◌∷◌, ◌++◌, length, slice_index}
 use Rattle.std.specs.Prelude.{Option, Some, IfSome, IfNone, vec_capacity}
-use Rattle.std.specs.Option.{option_and_then}
-use Rattle.page_frames.specs.Linked.{IsTable, frame_of, pages_of}
+use Rattle.page_frames.specs.Linked.{IsTable, place_of, pages_of}
 use Rattle.page_frames.specs.MarkedPages.{MarkedPages}
-use Rattle.page_frames.specs.declared.table.Table.{Table}
 use Rattle.page_frames.specs.declared.frames.Frames.TheInside.{Inside}
 
 abbrev pub marked_pages_of : Inside → MarkedPages
 marked_pages_of a = record { pages = pages_of a.table; dirty = a.dirty.items }
-
--- the place of a page in the list of dirty pages, as its frame tells it
-abbrev pub place_of : Table → ℕ → Option ℕ
-place_of table page = option_and_then (λ f. f.place) (frame_of table page)
 
 -- each page of the list has its index as its place, and no other page has one
 pub record IsPlacing (place : ℕ → Option ℕ) (dirty : List ℕ) : Type 0 where

@@ -42,6 +42,10 @@ abbrev pub frame_of : Table → ℕ → Option Frame
 frame_of t page =
     option_and_then (λ i. slice_get t.frames.items i) (index_of t.frames.items t.used page)
 
+-- the place of a page in the list of dirty pages, as its frame tells it
+abbrev pub place_of : Table → ℕ → Option ℕ
+place_of table page = option_and_then (λ f. f.place) (frame_of table page)
+
 abbrev pub with_frame : Option Frame → Pages → Pages
 with_frame None pages = pages
 with_frame (Some f) pages = insert pages f.page f.bytes

@@ -87,6 +87,21 @@ impl Frames {
         self.dirty.clear();
     }
 
+    /// Makes this memory a copy of another one, with no page dirty. Frames that are there already
+    /// are used again.
+    ///
+    /// # Errors
+    ///
+    /// Want of memory. Only some of the pages may be mapped then.
+    pub fn copy_from(&mut self, source: &Frames) -> Result<(), Memory>
+        ensures pages { OnOk result (self.new.pages ≡ source.now.pages) }
+        ensures clean { self.new.dirty ≡ [] }
+    {
+        self.reset();
+        self.dirty.reserve(source.table.used as usize)?;
+        self.table.copy_from(&source.table)
+    }
+
     /// Maps pages of zeros, so many from one on, as `map_page` maps one. After an `Err` some of them are mapped.
     pub fn map_pages(&mut self, first: u32, count: u32) -> Result<(), Memory>
         requires below { first + count ≤ PROGRAM_PAGES }

@@ -1,11 +1,12 @@
 //! The frames, linked by their indexes.
 
-ghost use Rattle.std.specs.Prelude.{◌≡◌, ◌+◌, ◌%◌, ◌<◌, ◌≤◌, length, slice_get, slice_set};
+ghost use Rattle.std.specs.Prelude.{◌≡◌, ℕ, ◌+◌, ◌%◌, ◌<◌, ◌≤◌, length, slice_get, slice_set};
 ghost use Rattle.std.specs.Prelude.{slice_index_or, vec_len, Some, None, OnOk, OnErr, IfSome};
 ghost use Rattle.std.specs.Option.{option_copied};
 ghost use Rattle.sl_model.specs.Pages.{IsPage};
 ghost use Rattle.sl_model.specs.declared.layout.TheConstants.{PROGRAM_PAGES, MOST_PAGES};
 ghost use Rattle.page_frames.specs.Linked.{IsTable, IsGrown, Puts, index_of, frame_of};
+ghost use Rattle.page_frames.specs.Linked.{place_of, pages_of};
 
 use crate::frame::Frame;
 use sl_base::Memory;
@@ -97,6 +98,24 @@ impl Table {
         frame.fill(page, self.heads[bucket], place, bytes);
         self.heads[bucket] = Some(self.used);
         self.used += 1;
+    }
+
+    /// Takes copies of the frames of another table into use, in their order, with no page dirty.
+    /// After an `Err` some of them are in use.
+    pub(crate) fn copy_from(&mut self, source: &Table) -> Result<(), Memory>
+        requires { IsTable source.now }
+        ensures table { IsTable self.new }
+        ensures used { self.new.used ≤ source.now.used }
+        ensures clean { (page : ℕ) → place_of self.new page ≡ None }
+        ensures pages { OnOk result (pages_of self.new ≡ pages_of source.now) }
+    {
+        self.reset();
+        for index in 0..source.used {
+            self.make_spare()?;
+            let frame = &source.frames[index as usize];
+            self.add(frame.page, None, &frame.bytes);
+        }
+        Ok(())
     }
 
     /// No frame is in use any more. All of them are spare.
