@@ -2,23 +2,22 @@
 use Rattle.std.proofs.Common.{◌≡◌, ◌≢◌, ℕ, ◌+◌, ◌<◌, ◌≤◌, List, [], ◌∷◌, ◌++◌, length, ◌*◌, ◌/◌, ◌%◌}
 use Rattle.std.proofs.Common.{Some, None, Bool, true, false, cond, refl, ap, ◌∙◌, sym, arith, eqb}
 use Rattle.std.proofs.Common.{⊎_elim, subst, vec_capacity}
-use Rattle.std.specs.Prelude.{Option, IfSome, IsSome, slice_index_or}
+use Rattle.std.specs.Prelude.{Option, IfSome, slice_index_or}
 use Rattle.std.specs.Vec.{with_item}
 use Rattle.std.specs.Option.{option_and_then, option_map}
 use Rattle.std.specs.List.{All}
-use Rattle.std.specs.FinMap.{insert, len-insert, same_map, nat_cmp-IsAntisymmetric, gets}
+use Rattle.std.specs.FinMap.{insert, same_map, nat_cmp-IsAntisymmetric, gets}
 use Rattle.std.specs.FinMap as map
 use Rattle.std.specs.Cmp.{nat_cmp_total}
 use Rattle.std.proofs.lemmas.Bool.Decides.{eqb_tells}
 use Rattle.std.proofs.lemmas.Grind.{common_steps}
 use Rattle.sl_model.specs.Pages.{Pages, IsPage, put_bytes, set_bytes}
 use Rattle.sl_model.proofs.PagesLaws.{set_bytes-in_page, IsPage-put_bytes}
-use Rattle.sl_model.specs.declared.layout.TheConstants.{PROGRAM_PAGES, MOST_PAGES}
 use Rattle.page_frames.specs.declared.frame.Frame.{Frame}
 use Rattle.page_frames.specs.declared.table.Table.{Table}
 use Rattle.page_frames.specs.declared.frames.Frames.TheInside.{Inside}
 use Rattle.page_frames.specs.MarkedPages.{mark, mark_bytes, with_bytes}
-use Rattle.page_frames.specs.Linked.{place_of, IsTable, Puts, frame_of, index_of, pages_of}
+use Rattle.page_frames.specs.Linked.{place_of, Puts, frame_of, index_of, pages_of}
 use Rattle.page_frames.specs.Fields.{AreFields, IsPlacing, Marks, marked_pages_of}
 use Rattle.page_frames.proofs.Tables.{get-pages_of}
 use Rattle.page_frames.proofs.Kept.{whole, framed}
@@ -110,7 +109,7 @@ pub AreFields-written : (a b : Inside) (address slot : ℕ) (bytes : List ℕ) (
     → new.bytes ≡ put_bytes old.bytes (address % 4096) bytes → All (λ b. b < 256) bytes → AreFields b
 AreFields-written a b address slot bytes old new are is put few =
     let was : IsPage old.bytes =
-        rw (frame-rewritten a b (address / 4096) slot old new is) at (whole a.table (address / 4096) are.table) in
+    rw (frame-rewritten a b (address / 4096) slot old new is) at (whole a.table (address / 4096) are.table) in
     AreFields-rewritten a b (address / 4096) slot old new are is
     (rw put (IsPage-put_bytes old.bytes (address % 4096) bytes was few))
 
@@ -126,7 +125,7 @@ pub IsRewritten-marked : (a b : Inside) (page slot : ℕ) (old mid new : Frame) 
 IsRewritten-marked a b page slot old mid new are index at table page_is next_is place_is page_now next_now marks room =
     let t = a.table in
     let number : mid.page ≡ page =
-        page_is ∙ (framed t page old are.table (sym (frame-read t page slot old are.table index at))).number in
+    page_is ∙ (framed t page old are.table (sym (frame-read t page slot old are.table index at))).number in
     record {
       index = index;
       written = subst (IsWritten t slot old new) (sym table)
@@ -149,11 +148,11 @@ view-written a b address slot bytes old new are is put some within =
     let split : 4096 * (address / 4096) + address % 4096 ≡ address = omega arith in
     let here = frame-rewritten a b (address / 4096) slot old new is in
     let mapped : map.get (pages_of a.table) (address / 4096) ≡ Some old.bytes =
-        get-pages_of a.table (address / 4096) ∙ ap (option_map (λ f. f.bytes)) here in
+    get-pages_of a.table (address / 4096) ∙ ap (option_map (λ f. f.bytes)) here in
     let pages : pages_of b.table ≡ set_bytes (pages_of a.table) address bytes =
-        pages-put (Puts-rewritten a b (address / 4096) slot old new is)
-        ∙ rw (put, ← set_bytes-in_page (pages_of a.table) (address / 4096) (address % 4096) bytes old.bytes mapped within, split) refl in
+    pages-put (Puts-rewritten a b (address / 4096) slot old new is)
+    ∙ rw (put, ← set_bytes-in_page (pages_of a.table) (address / 4096) (address % 4096) bytes old.bytes mapped within, split) refl in
     let dirty : b.dirty.items ≡ mark_bytes a.dirty.items address (length bytes) =
-        mark_by are.places is.marks (place_was a b (address / 4096) slot old new is) old.place refl
-        ∙ sym (mark_bytes-in_page a.dirty.items address (length bytes) some within) in
+    mark_by are.places is.marks (place_was a b (address / 4096) slot old new is) old.place refl
+    ∙ sym (mark_bytes-in_page a.dirty.items address (length bytes) some within) in
     λ i. record { pages = pages i; dirty = dirty i }

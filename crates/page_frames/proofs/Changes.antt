@@ -1,29 +1,28 @@
 -- How a table of frames changes.
-use Rattle.std.proofs.Common.{◌≡◌, ℕ, zero, suc, ◌+◌, ◌%◌, ◌<◌, ◌≤◌, List, [], ◌∷◌, ◌++◌, length}
-use Rattle.std.proofs.Common.{Bool, true, false, cond, Some, None, refl, ap, ◌∙◌, sym, subst, arith}
-use Rattle.std.proofs.Common.{eqb, ⊎_elim, ◌≢◌, slice_get, slice_set, get_or, length-append, replicate}
+use Rattle.std.proofs.Common.{◌≡◌, ℕ, zero, suc, ◌+◌, ◌%◌, ◌<◌, ◌≤◌, List, [], ◌∷◌, length}
+use Rattle.std.proofs.Common.{Bool, true, false, cond, Some, None, refl, ap, ◌∙◌, sym, arith}
+use Rattle.std.proofs.Common.{eqb, ⊎_elim, ◌≢◌, slice_get, slice_set, length-append, replicate}
 use Rattle.std.specs.Prelude.{Option, IfSome, IsSome, is_some, slice_index_or}
 use Rattle.std.specs.Option.{option_map, option_and_then}
 use Rattle.std.specs.Ordering.{nat_cmp}
 use Rattle.std.specs.Vec.{with_item}
 use Rattle.std.specs.Cmp.{nat_cmp_total}
-use Rattle.std.specs.FinMap.{get, insert, len, empty, len-insert, len-empty, contains_key}
+use Rattle.std.specs.FinMap.{get, len, empty, len-insert, len-empty, contains_key}
 use Rattle.std.proofs.lemmas.Bool.{cases_eq}
 use Rattle.std.proofs.lemmas.Bool.Decides.{eqb_tells}
-use Rattle.std.proofs.lemmas.Grind.{common_steps}
 use Rattle.std.proofs.lemmas.Option.{slice_get_within, IfSome_then}
 use Rattle.std.proofs.lemmas.List.{get_or-set_same, get_or-set_other, get_or-replicate}
 use Rattle.std.proofs.lemmas.List.{length-replicate}
 use Rattle.std.proofs.Math.ListN.{length-set}
-use Rattle.sl_model.specs.Pages.{Pages, IsPage}
+use Rattle.sl_model.specs.Pages.{IsPage}
 use Rattle.sl_model.specs.declared.layout.TheConstants.{PROGRAM_PAGES, MOST_PAGES}
 use Rattle.page_frames.specs.declared.frame.Frame.{Frame}
 use Rattle.page_frames.specs.declared.table.Table.{Table}
-use Rattle.page_frames.specs.Linked.{newest, is_of_page, is_in_bucket, index_of, first_of, frame_of}
+use Rattle.page_frames.specs.Linked.{is_of_page, is_in_bucket, index_of, first_of, frame_of}
 use Rattle.page_frames.specs.Linked.{with_frame, pages_below, pages_of, IsFrame, IsTable, IsGrown, Puts}
 use Rattle.page_frames.proofs.Newest.{newest-same, newest-found}
 use Rattle.page_frames.proofs.Tables.{slice_get-set_same, slice_get-set_other, slice_get-append_left}
-use Rattle.page_frames.proofs.Tables.{index-written, first-written, found, frame_at, get-pages_of}
+use Rattle.page_frames.proofs.Tables.{index-written, first-written, found, frame_at}
 use Rattle.page_frames.proofs.Tables.{frame-linked, get-pages_below, read_at}
 
 -- ---- frames that agree below a bound
@@ -97,8 +96,13 @@ IsTable-grown t u more is =
           linked_same t.frames.items u.frames.items i (λ j before. agree j (omega arith))
           (agree i below) (is.linked i below);
       buckets = rw more.heads is.buckets;
-      within = omega (arith, is.within, more.used, ap length more.frames.1,
-          length-append t.frames.items more.frames.0);
+      within = omega (
+        arith,
+        is.within,
+        more.used,
+        ap length more.frames.1,
+        length-append t.frames.items more.frames.0,
+      );
       few = rw more.used is.few;
     }
 

@@ -1,14 +1,14 @@
 -- Frames that are copied one after the other.
-use Rattle.std.proofs.Common.{◌≡◌, ℕ, suc, ◌+◌, ◌<◌, ◌≤◌, List, length, Bool, true, false, cond, Some}
+use Rattle.std.proofs.Common.{◌≡◌, ℕ, suc, ◌+◌, ◌<◌, Bool, true, false, cond, Some}
 use Rattle.std.proofs.Common.{None, refl, ap, ◌∙◌, sym, arith, eqb, slice_get}
-use Rattle.std.specs.Prelude.{Option, slice_index_or}
+use Rattle.std.specs.Prelude.{Option}
 use Rattle.std.specs.Option.{option_map, option_and_then}
 use Rattle.std.specs.FinMap.{get, insert}
 use Rattle.page_frames.specs.declared.frame.Frame.{Frame}
 use Rattle.page_frames.specs.declared.table.Table.{Table}
-use Rattle.page_frames.specs.Linked.{IsTable, IsGrown, IsFrame, Puts, frame_of, index_of, place_of}
+use Rattle.page_frames.specs.Linked.{IsTable, IsGrown, Puts, frame_of, place_of}
 use Rattle.page_frames.specs.Linked.{pages_of, pages_below, with_frame}
-use Rattle.page_frames.proofs.Tables.{get-pages_of, get-pages_below, frame-linked, read_at}
+use Rattle.page_frames.proofs.Tables.{get-pages_of, get-pages_below, frame-linked}
 use Rattle.page_frames.proofs.Changes.{IsTable-grown, frame_of-grown, pages_of-grown, pages_of-empty, frame_of-empty}
 use Rattle.page_frames.proofs.Changed.{pages-put, place-put}
 

@@ -1,5 +1,5 @@
 -- How many pages can be dirty.
-use Rattle.std.proofs.Common.{◌≡◌, ◌≢◌, ℕ, zero, suc, ◌<◌, ◌≤◌, List, [], ◌∷◌, length, Some, None}
+use Rattle.std.proofs.Common.{◌≡◌, ℕ, zero, suc, ◌≤◌, List, [], ◌∷◌, length, Some, None}
 use Rattle.std.proofs.Common.{Bool, true, false, cond, refl, sym, subst, arith, eqb, slice_get}
 use Rattle.std.specs.Prelude.{Option, IsSome}
 use Rattle.std.specs.Option.{option_and_then}

@@ -1,22 +1,20 @@
 -- What follows from what holds of the fields.
 use Rattle.std.proofs.Common.{◌≡◌, ◌≢◌, ℕ, ◌^◌, ◌<◌, ◌≤◌, List, [], ◌∷◌, length, length-append}
-use Rattle.std.proofs.Common.{slice_index, subst, Some, None, Bool, true, false, cond, refl, ap, ◌∙◌}
+use Rattle.std.proofs.Common.{slice_index, subst, Some, None, true, false, cond, refl, ap, ◌∙◌}
 use Rattle.std.proofs.Common.{sym, arith, eqb, ⊎_elim, vec_len, vec_capacity, slice_get}
 use Rattle.std.specs.Prelude.{Option, IsSome, IfNone, IfSome, is_some, Contains}
 use Rattle.std.specs.Option.{option_and_then, option_map}
 use Rattle.std.specs.FinMap as map
-use Rattle.std.specs.List.{list_any}
 use Rattle.std.proofs.lemmas.Bool.Decides.{eqb_tells}
 use Rattle.std.proofs.lemmas.Grind.{common_steps, get_or_default_zero}
-use Rattle.sl_model.specs.declared.layout.TheConstants.{PROGRAM_PAGES, MOST_PAGES}
+use Rattle.sl_model.specs.declared.layout.TheConstants.{PROGRAM_PAGES}
 use Rattle.sl_model.specs.Pages.{IsPage}
 use Rattle.page_frames.specs.declared.frame.Frame.{Frame}
 use Rattle.page_frames.specs.declared.table.Table.{Table}
 use Rattle.page_frames.specs.declared.frames.Frames.TheInside.{Inside}
-use Rattle.page_frames.specs.Linked.{place_of, IsTable, IsFrame, frame_of, pages_of, index_of}
+use Rattle.page_frames.specs.Linked.{place_of, IsTable, frame_of, pages_of, index_of}
 use Rattle.page_frames.specs.Fields.{AreFields, IsPlacing, marked_pages_of}
 use Rattle.page_frames.specs.MarkedPages.{MarkedPages, IsKept}
-use Rattle.page_frames.proofs.Newest.{newest-found}
 use Rattle.page_frames.proofs.Tables.{get-pages_of, frame-linked, found}
 use Rattle.page_frames.proofs.Changes.{len-pages_of}
 use Rattle.page_frames.proofs.Counts.{length-le-used}
@@ -95,10 +93,10 @@ room_to_mark : (a : Inside) → AreFields a → (page : ℕ) → IsSome (frame_o
     → place_of a.table page ≡ None → vec_len a.dirty < vec_capacity a.dirty
 room_to_mark a are page some none =
     let place : ℕ → Option ℕ = λ q.
-        cond (eqb page q) (Some (length a.dirty.items)) (place_of a.table q) in
+    cond (eqb page q) (Some (length a.dirty.items)) (place_of a.table q) in
     let longer = length-le-frames (IsPlacing-push {after = place} are.places page none
-        (grind (arith, common_steps)) (λ q differ. rw differ refl)) a.table
-        (λ q h. with_place a.table page q (length a.dirty.items) some h) in
+    (grind (arith, common_steps)) (λ q differ. rw differ refl)) a.table
+    (λ q h. with_place a.table page q (length a.dirty.items) some h) in
     omega (arith, a.dirty.ok.0, length-append a.dirty.items (page ∷ []), are.room)
 
 room_if : (a : Inside) → AreFields a → (page : ℕ) → IsSome (frame_of a.table page) → (o : Option ℕ)
@@ -120,8 +118,8 @@ pub has_frame : (a : Inside) (m : MarkedPages) (page : ℕ) → marked_pages_of 
     → None ≡ frame_of a.table page → IsSome (map.get m.pages page) → ⊥
 has_frame a m page view none some =
     let unmapped : map.get m.pages page ≡ None =
-        ap (λ v. map.get v.pages page) (sym view) ∙ get-pages_of a.table page
-        ∙ ap (option_map (λ f. f.bytes)) (sym none) in
+    ap (λ v. map.get v.pages page) (sym view) ∙ get-pages_of a.table page
+    ∙ ap (option_map (λ f. f.bytes)) (sym none) in
     let both : is_some (map.get m.pages page) ≡ false = ap is_some unmapped in
     absurd cc
 
@@ -143,9 +141,9 @@ marked_mapped : (a : Inside) → AreFields a → (page : ℕ) → Contains a.dir
     → IsSome (map.get (pages_of a.table) page)
 marked_mapped a are page stands =
     let there : slice_index a.dirty.items stands.0 ≡ page =
-        sym (get_or_default_zero a.dirty.items stands.0 page stands.1) ∙ stands.2 in
+    sym (get_or_default_zero a.dirty.items stands.0 page stands.1) ∙ stands.2 in
     let place : place_of a.table page ≡ Some stands.0 =
-        ap (place_of a.table) (sym there) ∙ are.places.placed stands.0 stands.1 in
+    ap (place_of a.table) (sym there) ∙ are.places.placed stands.0 stands.1 in
     rw (get-pages_of a.table page)
     (with_bytes (frame_of a.table page) (mapped a.table page (rw place refl)))
 

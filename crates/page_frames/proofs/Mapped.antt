@@ -1,7 +1,7 @@
 -- What holds where a page was mapped, or its marking taken back.
 use Rattle.std.proofs.Common.{◌≡◌, ℕ, ◌+◌, ◌-◌, ◌/◌, ◌%◌, ◌<◌, ◌≤◌, [], ◌∷◌, ◌++◌, length, take, Some}
 use Rattle.std.proofs.Common.{None, Bool, true, false, cond, refl, ap, ◌∙◌, sym, arith, subst}
-use Rattle.std.proofs.Common.{vec_capacity, replicate, slice_get, List, eqb}
+use Rattle.std.proofs.Common.{vec_capacity, replicate, slice_get, List}
 use Rattle.std.specs.Prelude.{Option, IfSome, is_some, ◌&&◌, min, if◌then◌else◌, IsSome, slice_index_or}
 use Rattle.std.specs.Vec.{with_item}
 use Rattle.std.specs.Option.{option_map, option_and_then}
@@ -10,13 +10,12 @@ use Rattle.std.specs.FinMap as map
 use Rattle.std.specs.Cmp.{nat_cmp_total}
 use Rattle.sl_model.specs.Pages.{IsPage, bytes_at}
 use Rattle.sl_model.proofs.PagesLaws.{insert-same, AreWhole, is_some-bytes_at-in_page, is_some-bytes_at-add}
-use Rattle.sl_model.specs.declared.layout.TheConstants.{PROGRAM_PAGES, MOST_PAGES}
 use Rattle.page_frames.specs.declared.frame.Frame.{Frame}
 use Rattle.page_frames.specs.declared.table.Table.{Table}
 use Rattle.page_frames.specs.declared.frames.Frames.TheInside.{Inside}
 use Rattle.page_frames.specs.MarkedPages.{MarkedPages, with_page}
 use Rattle.page_frames.specs.Linked.{place_of, IsTable, IsGrown, Puts, frame_of, index_of, pages_of}
-use Rattle.page_frames.specs.Fields.{AreFields, IsPlacing, Marks, marked_pages_of}
+use Rattle.page_frames.specs.Fields.{AreFields, Marks, marked_pages_of}
 use Rattle.page_frames.proofs.Tables.{get-pages_of, frame_at}
 use Rattle.page_frames.proofs.Kept.{whole, has_frame}
 use Rattle.page_frames.proofs.Changes.{IsTable-grown, frame_of-grown, pages_of-grown, IsWritten, Puts-written, IsTable-written, IsWritten-at}
@@ -58,7 +57,7 @@ pub AreFields-mapped : (a b : Inside) (page : ℕ) (new : Frame) → AreFields a
     → b.table.used ≤ vec_capacity b.dirty → AreFields b
 AreFields-mapped a b page new are table puts none place dirty room =
     let marks : Marks None new.place page a.dirty.items b.dirty.items =
-        record { marked_before = tt; marked_now = (place, dirty) } in
+    record { marked_before = tt; marked_now = (place, dirty) } in
     record {
       table = table;
       places = IsPlacing-put puts marks (rw (← none) refl) are.places;
@@ -70,11 +69,11 @@ pub view-mapped : (a b : Inside) (m : MarkedPages) (page : ℕ) (new : Frame) �
     → b.dirty.items ≡ a.dirty.items ++ page ∷ [] → marked_pages_of b ≡ with_page m page
 view-mapped a b m page new view puts none zeros dirty =
     let pages : pages_of b.table ≡ insert (pages_of a.table) page (replicate 4096 0) =
-        pages-put puts ∙ ap (insert (pages_of a.table) page) zeros in
+    pages-put puts ∙ ap (insert (pages_of a.table) page) zeros in
     let now : marked_pages_of b ≡ record {
-          pages = insert (pages_of a.table) page (replicate 4096 0);
-          dirty = a.dirty.items ++ page ∷ [];
-        } = λ i. record { pages = pages i; dirty = dirty i } in
+      pages = insert (pages_of a.table) page (replicate 4096 0);
+      dirty = a.dirty.items ++ page ∷ [];
+    } = λ i. record { pages = pages i; dirty = dirty i } in
     subst (λ v. marked_pages_of b ≡ with_page v page) view (rw (is_mapped a page, ← none) now)
 
 -- ---- the last mark was taken back
@@ -116,7 +115,7 @@ pub AreFields-unmarked : (a b : Inside) (page slot : ℕ) (old new : Frame) → 
     → IsUnmarked a b page slot old new → AreFields b
 AreFields-unmarked a b page slot old new are is =
     let was : IsPage old.bytes =
-        rw (frame_was a b page slot old new is) at (whole a.table page are.table) in
+    rw (frame_was a b page slot old new is) at (whole a.table page are.table) in
     let put = puts a b page slot old new is in
     record {
       table = IsTable-written a.table b.table slot old new is.written are.table (rw is.bytes was);
@@ -131,11 +130,11 @@ pub view-unmarked : (a b : Inside) (m : MarkedPages) (page slot : ℕ) (old new 
     → marked_pages_of b ≡ record m { dirty = take (length m.dirty - 1) m.dirty }
 view-unmarked a b m page slot old new view is dirty =
     let at : map.get (pages_of a.table) page ≡ Some old.bytes =
-        get-pages_of a.table page
-        ∙ ap (option_map (λ f. f.bytes)) (frame_was a b page slot old new is) in
+    get-pages_of a.table page
+    ∙ ap (option_map (λ f. f.bytes)) (frame_was a b page slot old new is) in
     let pages : pages_of b.table ≡ pages_of a.table =
-        pages-put (puts a b page slot old new is) ∙ ap (insert (pages_of a.table) page) is.bytes
-        ∙ insert-same (pages_of a.table) page old.bytes at in
+    pages-put (puts a b page slot old new is) ∙ ap (insert (pages_of a.table) page) is.bytes
+    ∙ insert-same (pages_of a.table) page old.bytes at in
     subst (λ v. marked_pages_of b ≡ record v { dirty = take (length v.dirty - 1) v.dirty }) view
     (λ i. record { pages = pages i; dirty = dirty i })
 

@@ -1,7 +1,7 @@
 -- The greatest number below a bound that a test takes.
-use Rattle.std.proofs.Common.{◌≡◌, ℕ, zero, suc, ◌+◌, ◌<◌, ◌≤◌, Bool, true, false, cond, Some, None}
-use Rattle.std.proofs.Common.{refl, ap, ◌∙◌, sym, arith, ⊎_elim, inl, inr}
-use Rattle.std.specs.Prelude.{Option, IfSome, IsSome}
+use Rattle.std.proofs.Common.{◌≡◌, ℕ, zero, suc, ◌<◌, Bool, true, false, cond, Some, None}
+use Rattle.std.proofs.Common.{refl, arith, ⊎_elim}
+use Rattle.std.specs.Prelude.{Option}
 use Rattle.std.proofs.lemmas.Bool.{cases_eq}
 use Rattle.page_frames.specs.Linked.{newest}
 

@@ -1,25 +1,20 @@
 -- Frames that are linked by their indexes.
-use Rattle.std.proofs.Common.{◌≡◌, ℕ, zero, suc, ◌+◌, ◌%◌, ◌<◌, ◌≤◌, List, [], ◌∷◌, ◌++◌, length}
-use Rattle.std.proofs.Common.{Bool, true, false, cond, Some, None, refl, ap, ◌∙◌, sym, subst, arith}
-use Rattle.std.proofs.Common.{eqb, ⊎_elim, slice_get, slice_set, get_or, length-append, replicate}
-use Rattle.std.specs.Prelude.{Option, IfSome, IsSome, is_some, slice_index_or}
+use Rattle.std.proofs.Common.{◌≡◌, ℕ, zero, suc, ◌%◌, ◌<◌, ◌≤◌, List, [], ◌∷◌, ◌++◌, length}
+use Rattle.std.proofs.Common.{Bool, true, false, cond, Some, None, refl, ap, ◌∙◌, sym, arith}
+use Rattle.std.proofs.Common.{eqb, ⊎_elim, slice_get, slice_set}
+use Rattle.std.specs.Prelude.{Option, IfSome, IsSome, slice_index_or}
 use Rattle.std.specs.Option.{option_map, option_and_then}
 use Rattle.std.specs.Ordering.{nat_cmp}
-use Rattle.std.specs.Cmp.{nat_cmp_total}
-use Rattle.std.specs.FinMap.{get, insert, len, empty, get-empty, gets, len-insert, len-empty, contains_key}
+use Rattle.std.specs.FinMap.{get, insert, get-empty, gets}
 use Rattle.std.proofs.lemmas.Bool.{cases_eq}
-use Rattle.std.proofs.lemmas.Bool.Decides.{eqb_tells}
 use Rattle.std.proofs.lemmas.Grind.{common_steps}
 use Rattle.std.proofs.lemmas.Option.{slice_get-get_or, slice_get_within, slice_get_past, get_or_from_slice_get, slice_get_read}
-use Rattle.std.proofs.lemmas.List.{get_or-set_same, get_or-set_other}
-use Rattle.std.proofs.Math.ListN.{length-set}
-use Rattle.sl_model.specs.Pages.{Pages, IsPage}
-use Rattle.sl_model.specs.declared.layout.TheConstants.{PROGRAM_PAGES, MOST_PAGES}
+use Rattle.sl_model.specs.Pages.{Pages}
 use Rattle.page_frames.specs.declared.frame.Frame.{Frame}
 use Rattle.page_frames.specs.declared.table.Table.{Table}
-use Rattle.page_frames.specs.Linked.{newest, is_of_page, is_in_bucket, index_of, first_of, frame_of}
-use Rattle.page_frames.specs.Linked.{with_frame, pages_below, pages_of, IsFrame, IsTable, IsGrown, Puts}
-use Rattle.page_frames.proofs.Newest.{newest-same, newest-found, newest-none, newest-start, past}
+use Rattle.page_frames.specs.Linked.{is_of_page, is_in_bucket, index_of, first_of, frame_of}
+use Rattle.page_frames.specs.Linked.{with_frame, pages_below, pages_of, IsFrame, IsTable}
+use Rattle.page_frames.proofs.Newest.{newest-same, newest-found, newest-start, past}
 
 -- ---- lists of frames
 

@@ -1,7 +1,7 @@
 -- Frames that are linked by their indexes.
-use Rattle.std.specs.Prelude.{◌≡◌, ℕ, zero, suc, ◌+◌, ◌%◌, ◌<◌, ◌≤◌, nat_eq, if◌then◌else◌}
-use Rattle.std.specs.Prelude.{List, [], ◌∷◌, ◌++◌, length, Bool, true, false, slice_get}
-use Rattle.std.specs.Prelude.{slice_index_or, Option, Some, None, IfSome, IsSome, IfNone}
+use Rattle.std.specs.Prelude.{◌≡◌, ℕ, zero, suc, ◌%◌, ◌<◌, ◌≤◌, nat_eq, if◌then◌else◌}
+use Rattle.std.specs.Prelude.{List, ◌++◌, length, Bool, false, slice_get}
+use Rattle.std.specs.Prelude.{slice_index_or, Option, Some, None, IfSome}
 use Rattle.std.specs.Option.{option_and_then}
 use Rattle.std.specs.FinMap.{empty, insert}
 use Rattle.sl_model.specs.Pages.{Pages, IsPage}

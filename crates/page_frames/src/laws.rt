@@ -2,7 +2,8 @@
 
 ghost use Rattle.page_frames.specs.DirtyWalk.{WalkIsList};
 
-/// A walk by `next_dirty` from the start gives each dirty page once, in the order of marking, and then ends.
+/// A walk by `next_dirty` from the start gives each dirty page once, in the order of marking, and
+/// then ends.
 pub fn walk_gives_each_dirty_page_once()
     ensures { WalkIsList }
 {}

@@ -43,5 +43,5 @@ pub returns-clause-address : goal.returns-clause-address
 returns-clause-address c =
     let page = c.args.addr / 4096 in
     let low = below c.self.inside.table page c.self.invariant.table
-        (rw (← frame-read c.self.inside.table page c.in-Some.index c.index_mut-frame.result.now c.self.invariant.table c.in-Some.ensures.index c.index_mut-frame.ensures.value) refl) in
+    (rw (← frame-read c.self.inside.table page c.in-Some.index c.index_mut-frame.result.now c.self.invariant.table c.in-Some.ensures.index c.index_mut-frame.ensures.value) refl) in
     omega (arith, low)

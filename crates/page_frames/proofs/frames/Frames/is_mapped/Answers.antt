@@ -1,5 +1,5 @@
 use Rattle.std.proofs.Common.{◌≡◌, ◌/◌, arith, refl, sym, ◌∙◌, ap, true, false}
-use Rattle.std.specs.Prelude.{is_some, ◌&&◌}
+use Rattle.std.specs.Prelude.{is_some}
 use Rattle.sl_model.specs.Pages.{bytes_at}
 use Rattle.page_frames.specs.Linked.{frame_of}
 use Rattle.page_frames.proofs.Mapped.{is_some-step, is_some-index}
@@ -9,8 +9,8 @@ pub returns-then-is_none : goal.returns-then-is_none
 returns-then-is_none c =
     let page = c.loop-left.addr / 4096 in
     let none : is_some (frame_of c.self.inside.table page) ≡ false =
-        sym (is_some-index c.self.inside.table page) ∙ ap is_some (sym c.find.ensures.index)
-        ∙ c.if-is_none.ensures in
+    sym (is_some-index c.self.inside.table page) ∙ ap is_some (sym c.find.ensures.index)
+    ∙ c.if-is_none.ensures in
     sym (sym c.loop-left.invariant.same
     ∙ is_some-step c.self.inside c.args.self.now c.loop-left.addr c.loop-left.left _ c.self.invariant
     c.self.view_is c.loop-left-test.true refl ∙ rw none refl)
@@ -19,8 +19,8 @@ pub loop-left-preserved : goal.loop-left-preserved
 loop-left-preserved c =
     let page = c.loop-left.addr / 4096 in
     let some : is_some (frame_of c.self.inside.table page) ≡ true =
-        sym (is_some-index c.self.inside.table page) ∙ ap is_some (sym c.find.ensures.index)
-        ∙ c.if-is_none.ensures in
+    sym (is_some-index c.self.inside.table page) ∙ ap is_some (sym c.find.ensures.index)
+    ∙ c.if-is_none.ensures in
     record {
       same = sym (is_some-step c.self.inside c.args.self.now c.loop-left.addr c.loop-left.left
           c.in_page-count.result c.self.invariant c.self.view_is c.loop-left-test.true

@@ -1,13 +1,11 @@
-use Rattle.std.proofs.Common.{◌≡◌, ◌≤◌, ◌<◌, ◌++◌, ◌∷◌, [], ◌∙◌, sym, ap, arith, length, None, Some, refl, false, true, rules}
+use Rattle.std.proofs.Common.{◌≡◌, ◌≤◌, ◌<◌, ◌∙◌, sym, ap, arith, length, Some, rules}
 use Rattle.std.specs.Prelude.{is_some}
 use Rattle.std.specs.FinMap as map
-use Rattle.sl_model.specs.Pages.{IsPage}
 use Rattle.sl_model.specs.declared.layout.TheConstants.{MOST_PAGES}
 use Rattle.sl_model.proofs.Mapping.{IsPage-zeros}
-use Rattle.page_frames.specs.declared.frame.Frame.{Frame}
 use Rattle.page_frames.specs.declared.frames.Frames.TheInside.{Inside}
 use Rattle.page_frames.specs.Fields.{marked_pages_of}
-use Rattle.page_frames.specs.Linked.{frame_of, index_of, pages_of}
+use Rattle.page_frames.specs.Linked.{pages_of}
 use Rattle.page_frames.proofs.Kept.{length-le-frames, mapped}
 use Rattle.page_frames.proofs.Changes.{IsTable-grown, frame_of-grown, len-pages_of}
 use Rattle.page_frames.proofs.Mapped.{with_page-mapped, AreFields-grown, view-grown, AreFields-mapped, len-with_page, view-mapped, no_frame, is_some-index}

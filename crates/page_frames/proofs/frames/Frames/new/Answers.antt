@@ -1,1 +1,0 @@
-use Rattle.page_frames.proofs.frames.Frames.new.Goals as goal

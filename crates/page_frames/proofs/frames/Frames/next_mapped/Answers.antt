@@ -62,8 +62,8 @@ pub returns-then-is_some-clause-mapped : goal.returns-then-is_some-clause-mapped
 returns-then-is_some-clause-mapped c =
     let page = c.loop-page.page in
     let some : is_some (frame_of c.self.inside.table page) ≡ true =
-        sym (is_some-index c.self.inside.table page) ∙ ap is_some (sym c.find.ensures.index)
-        ∙ sym c.if-is_some.ensures in
+    sym (is_some-index c.self.inside.table page) ∙ ap is_some (sym c.find.ensures.index)
+    ∙ sym c.if-is_some.ensures in
     rw (seen c.self.inside c.args.self.now page c.self.view_is)
     (some_bytes (frame_of c.self.inside.table page) some)
 

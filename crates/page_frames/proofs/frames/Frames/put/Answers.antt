@@ -1,4 +1,4 @@
-use Rattle.std.proofs.Common.{◌≡◌, ◌+◌, ◌/◌, ◌%◌, ◌<◌, ◌≤◌, ◌∙◌, ap, sym, arith, refl, length}
+use Rattle.std.proofs.Common.{◌+◌, ◌/◌, ◌%◌, ◌<◌, ◌≤◌, ◌∙◌, ap, sym, arith, refl, length}
 use Rattle.std.specs.Vec.{with_item}
 use Rattle.sl_model.specs.Pages.{low_bytes}
 use Rattle.sl_model.proofs.PagesLaws.{length-low_bytes, All-low_bytes}

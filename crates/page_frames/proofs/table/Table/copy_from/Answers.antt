@@ -1,9 +1,6 @@
-use Rattle.std.proofs.Common.{◌≡◌, ◌<◌, refl, arith, Some, slice_get}
-use Rattle.page_frames.specs.declared.frame.Frame.{Frame}
-use Rattle.page_frames.specs.declared.table.Table.{Table}
-use Rattle.page_frames.specs.Linked.{IsFrame, IsTable}
+use Rattle.std.proofs.Common.{refl}
 use Rattle.page_frames.proofs.Tables.{read_at, frame-linked}
-use Rattle.page_frames.proofs.Copies.{IsCopied, IsCopied-grown, IsCopied-more, not_copied}
+use Rattle.page_frames.proofs.Copies.{IsCopied-grown, IsCopied-more, not_copied}
 use Rattle.page_frames.proofs.table.Table.copy_from.Goals as goal
 
 pub returns-in_err-make_spare-clause-table : goal.returns-in_err-make_spare-clause-table

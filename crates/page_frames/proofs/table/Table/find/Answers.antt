@@ -1,9 +1,8 @@
-use Rattle.std.proofs.Common.{◌≡◌, ◌<◌, ◌%◌, arith, sym, ap, Some, None, refl, subst, slice_get}
+use Rattle.std.proofs.Common.{◌≡◌, ◌%◌, arith, sym, Some, subst, slice_get}
 use Rattle.std.specs.Prelude.{Option, ℕ, slice_index_or}
 use Rattle.page_frames.specs.declared.frame.Frame.{Frame}
-use Rattle.page_frames.specs.Linked.{IsTable, index_of}
+use Rattle.page_frames.specs.Linked.{IsTable}
 use Rattle.page_frames.specs.declared.table.Table.{Table}
-use Rattle.page_frames.proofs.Newest.{past}
 use Rattle.page_frames.proofs.Tables.{Stands, stands-first, stands-next, stands-here, next_lower, read_at}
 use Rattle.page_frames.proofs.table.Table.find.Goals as goal
 
