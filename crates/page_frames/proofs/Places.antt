@@ -1,6 +1,6 @@
 -- The places of dirty pages.
 use Rattle.std.proofs.Common.{◌≡◌, ◌≢◌, ℕ, ◌<◌, ◌≤◌, List, [], ◌∷◌, ◌++◌, length, length-append, slice_index, Some, None, true, false, refl, ap, ◌∙◌, sym, arith, eqb, ⊎_elim}
-use Rattle.std.specs.Prelude.{Option, IsSome}
+use Rattle.std.specs.Prelude.{Option, IsSome, is_some}
 use Rattle.sl_model.specs.declared.layout.TheConstants.{PROGRAM_PAGES}
 use Rattle.std.proofs.lemmas.Map.Steps.{length-le_from_distinct_below}
 use Rattle.std.specs.List.{IsDistinct, list_any}
@@ -35,6 +35,16 @@ list_any-unplaced {place} {dirty} is page none = list_any_none (eqb page) dirty 
     let zero = get_or_default_zero dirty i d within in
     let placed = is.placed i within in
     grind (arith, common_steps, zero, placed, none))
+
+marked_by : {place : ℕ → Option ℕ} {dirty : List ℕ} → IsPlacing place dirty → (page : ℕ) (o : Option ℕ)
+    → place page ≡ o → is_some o ≡ list_any (eqb page) dirty
+marked_by is page None e = sym (list_any-unplaced is page e)
+marked_by is page (Some i) e = sym (list_any-placed is page i e)
+
+-- a page stands in the list where it has a place
+pub is_some-place : {place : ℕ → Option ℕ} {dirty : List ℕ} → IsPlacing place dirty → (page : ℕ)
+    → is_some (place page) ≡ list_any (eqb page) dirty
+is_some-place {place} is page = marked_by is page (place page) refl
 
 -- where all places stay
 pub IsPlacing-same : {place after : ℕ → Option ℕ} {dirty : List ℕ} → IsPlacing place dirty → ((q : ℕ) → after q ≡ place q) → IsPlacing after dirty

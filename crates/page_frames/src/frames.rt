@@ -1,6 +1,8 @@
 //! The mapped pages and their dirty list.
 
 ghost use Rattle.std.specs.Prelude.{◌≡◌, ℕ, ◌+◌, ◌-◌, ◌<◌, ◌≤◌, ◌/◌, ◌%◌, ◌^◌, [], length, take, min, if◌then◌else◌, true, is_some, unwrap_or, slice_get, Contains, Some, None, IsSome, OnOk, OnErr, IfOk, IfSome, IfNone};
+ghost use Rattle.std.specs.Prelude.{nat_eq};
+ghost use Rattle.std.specs.List.{list_any};
 ghost use Rattle.std.specs.Option.{option_copied};
 ghost use Rattle.std.specs.FinMap.{get, len, empty};
 ghost use Rattle.sl_model.specs.Pages.{IsWidth, byte_at, bytes_at, load_at, store_at, low_bytes};
@@ -237,6 +239,16 @@ impl Frames {
         };
         let frame = &mut self.table.frames[index as usize];
         frame.place = None;
+    }
+
+    /// Whether a page is dirty.
+    pub fn is_dirty(&self, page: u32) -> bool
+        ensures { result ≡ list_any (nat_eq page) self.now.dirty }
+    {
+        match self.table.get(page) {
+            Some(frame) => frame.place.is_some(),
+            None => false,
+        }
     }
 
     /// How many pages are dirty.

@@ -76,6 +76,25 @@ fn maps_and_copies(rt: HostRuntime) -> Result<(), Fail> {
 }
 
 #[test]
+fn copies_and_gives_up(rt: HostRuntime) -> Result<(), Fail> {
+    let mut frames = three_pages(rt.alloc())?;
+    assert!(rt; frames.store(0x11004, 4, 0x0102_0304));
+    let mut copy = three_pages(rt.alloc())?;
+    assert!(rt; copy.store(0x10000, 4, 1));
+    copy.copy_from(&frames)?;
+    assert_eq!(rt; copy.load(0x11004, 4), Some(0x0102_0304));
+    assert_eq!(rt; copy.load(0x10000, 4), Some(0));
+    assert_eq!(rt; copy.dirty_len(), 0);
+    frames.reset();
+    assert_eq!(rt; frames.load(0x11004, 1), None);
+    assert_eq!(rt; frames.dirty_len(), 0);
+    frames.copy_from(&copy)?;
+    assert_eq!(rt; frames.load(0x11004, 2), Some(0x0304));
+    assert!(rt; frames.page(0xbfffe).is_some());
+    Ok(())
+}
+
+#[test]
 fn walks_over_dirty_pages(rt: HostRuntime) -> Result<(), Fail> {
     let mut frames = three_pages(rt.alloc())?;
     assert_eq!(rt; walk(&frames), [Some(16), Some(17), Some(0xbfffe), None]);
@@ -90,6 +109,9 @@ fn walks_over_dirty_pages(rt: HostRuntime) -> Result<(), Fail> {
 
     frames.cut_dirty(1);
     assert_eq!(rt; walk(&frames), [Some(17), None, None, None]);
+    assert!(rt; frames.is_dirty(17));
+    assert!(rt; !frames.is_dirty(16));
+    assert!(rt; !frames.is_dirty(18));
     assert!(rt; frames.store(0x10000, 1, 0));
     assert_eq!(rt; walk(&frames), [Some(17), Some(16), None, None]);
     Ok(())
