@@ -59,7 +59,9 @@ fn mapped(rt: &impl Abort, alloc: Global) -> Result<Pair, Memory> {
 fn address(random: &mut Random) -> u32 {
     let page = PAGES[random.below(10) as usize];
     let start = page.wrapping_mul(4096);
-    start.wrapping_add(random.below(8)).wrapping_sub(random.below(8))
+    start
+        .wrapping_add(random.below(8))
+        .wrapping_sub(random.below(8))
 }
 
 /// A width of loads and stores.

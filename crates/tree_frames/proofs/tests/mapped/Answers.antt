@@ -1,6 +1,6 @@
 use Rattle.std.proofs.Common.{ℕ, List, arith}
 use Rattle.std.specs.Ordering.{nat_cmp}
-use Rattle.std.specs.FinMap.{len, len-empty}
+use Rattle.std.specs.FinMap.{len-empty}
 use Rattle.tree_frames.proofs.tests.mapped.Goals as goal
 
 pub loop-page-init : goal.loop-page-init

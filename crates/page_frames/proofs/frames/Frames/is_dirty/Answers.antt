@@ -1,4 +1,4 @@
-use Rattle.std.proofs.Common.{◌≡◌, ℕ, Some, None, ◌∙◌, ap, refl, sym, eqb}
+use Rattle.std.proofs.Common.{◌≡◌, ℕ, Some, None, ◌∙◌, ap, eqb}
 use Rattle.std.specs.Prelude.{is_some, Option}
 use Rattle.std.specs.Option.{option_and_then}
 use Rattle.std.specs.List.{list_any}
