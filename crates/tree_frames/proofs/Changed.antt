@@ -11,7 +11,7 @@ use Rattle.std.specs.Cmp.{nat_cmp_total}
 use Rattle.std.proofs.lemmas.Bool.Decides.{eqb_tells}
 use Rattle.std.proofs.lemmas.Grind.{common_steps}
 use Rattle.sl_model.specs.Pages.{Pages, IsPage, put_bytes, set_bytes}
-use Rattle.sl_model.specs.PagesLaws.{set_bytes-in_page, IsPage-put_bytes}
+use Rattle.sl_model.proofs.PagesLaws.{set_bytes-in_page, IsPage-put_bytes}
 use Rattle.sl_model.specs.declared.layout.TheConstants.{PROGRAM_PAGES, MOST_PAGES}
 use Rattle.tree_frames.specs.declared.frame.Frame.{Frame}
 use Rattle.tree_frames.specs.declared.frames.TreeFrames.TheInside.{Inside}

@@ -6,7 +6,7 @@ use Rattle.std.specs.BTreeMap.{get}
 use Rattle.std.specs.FinMap as map
 use Rattle.std.proofs.Math.Nat.{pow-succ', pow-le-pow_right}
 use Rattle.sl_model.specs.Pages.{Pages, IsPage, byte_at, load_at, bytes_at, from_bytes}
-use Rattle.sl_model.specs.PagesLaws.{load_at-suc, load_at-in_page, load_at-none}
+use Rattle.sl_model.proofs.PagesLaws.{load_at-suc, load_at-in_page, load_at-none}
 use Rattle.tree_frames.specs.declared.frame.Frame.{Frame}
 use Rattle.tree_frames.specs.declared.frames.TreeFrames.TheInside.{Inside}
 use Rattle.page_frames.specs.MarkedPages.{MarkedPages}

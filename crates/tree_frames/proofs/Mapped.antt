@@ -10,7 +10,7 @@ use Rattle.std.specs.Cmp.{nat_cmp_total}
 use Rattle.std.proofs.lemmas.List.{length-replicate}
 use Rattle.std.proofs.lemmas.List.Elements.{All-replicate}
 use Rattle.sl_model.specs.Pages.{IsPage, bytes_at}
-use Rattle.sl_model.specs.PagesLaws.{insert-same, AreWhole, is_some-bytes_at-in_page, is_some-bytes_at-add}
+use Rattle.sl_model.proofs.PagesLaws.{insert-same, AreWhole, is_some-bytes_at-in_page, is_some-bytes_at-add}
 use Rattle.sl_model.specs.declared.layout.TheConstants.{PROGRAM_PAGES, MOST_PAGES}
 use Rattle.tree_frames.specs.declared.frame.Frame.{Frame}
 use Rattle.tree_frames.specs.declared.frames.TreeFrames.TheInside.{Inside}

@@ -1,6 +1,6 @@
 use Rattle.std.proofs.Common.{◌≡◌, ◌+◌, ◌-◌, length, sym, arith, rules}
 use Rattle.std.proofs.lemmas.List.{drop-drop}
-use Rattle.sl_model.specs.PagesLaws.{put_bytes-between}
+use Rattle.sl_model.proofs.PagesLaws.{put_bytes-between}
 use Rattle.tree_frames.proofs.frame.Frame.copy_in.Goals as goal
 
 pub returns-clause-bytes : goal.returns-clause-bytes

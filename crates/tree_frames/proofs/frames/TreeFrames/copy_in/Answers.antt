@@ -1,7 +1,7 @@
 use Rattle.std.proofs.Common.{◌≡◌, ◌-◌, ◌++◌, length, length-append, arith, refl, ap, sym, ◌∙◌}
 use Rattle.std.proofs.lemmas.List.{take-append-drop}
 use Rattle.std.proofs.lemmas.Bool.{eqb-true}
-use Rattle.sl_model.specs.PagesLaws.{bytes_at-mapped}
+use Rattle.sl_model.proofs.PagesLaws.{bytes_at-mapped}
 use Rattle.page_frames.specs.MarkedPages.{with_bytes}
 use Rattle.page_frames.proofs.Copied.{with_bytes-append, with_bytes-nil, AreMapped-rest}
 use Rattle.tree_frames.proofs.frames.TreeFrames.copy_in.Goals as goal

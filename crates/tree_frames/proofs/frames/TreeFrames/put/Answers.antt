@@ -1,6 +1,6 @@
 use Rattle.std.proofs.Common.{◌+◌, ◌%◌, ◌<◌, ◌≤◌, ◌∙◌, ap, sym, arith, refl, length}
 use Rattle.sl_model.specs.Pages.{low_bytes}
-use Rattle.sl_model.specs.PagesLaws.{length-low_bytes, All-low_bytes}
+use Rattle.sl_model.proofs.PagesLaws.{length-low_bytes, All-low_bytes}
 use Rattle.page_frames.specs.MarkedPages.{with_bytes}
 use Rattle.tree_frames.proofs.Kept.{room_for}
 use Rattle.tree_frames.proofs.Changed.{AreFields-written, view-written}
