@@ -60,7 +60,7 @@ map_same : (old : Option (List ℕ)) → old ≡ option_map (λ page. page) old
 map_same None = refl
 map_same (Some old) = refl
 
-get-put_all_listed : (pages : Pages) (listed : List ListedPage) (number : ℕ) → get (put_all_listed pages listed) number ≡ option_map (λ old. last_listing old listed number) (get pages number)
+pub get-put_all_listed : (pages : Pages) (listed : List ListedPage) (number : ℕ) → get (put_all_listed pages listed) number ≡ option_map (λ old. last_listing old listed number) (get pages number)
 unfolding put_all_listed
 get-put_all_listed pages [] number = map_same (get pages number)
 get-put_all_listed pages (page ∷ listed) number =
