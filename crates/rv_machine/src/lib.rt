@@ -10,6 +10,9 @@ mod stores;
 mod tests;
 mod traps;
 
+pub use arithmetic::{
+    is_taken, load_value, load_width, mul_div_value, register_value, store_width,
+};
 pub use machine::{Machine, Outcome};
 pub use stepping::step;
 pub use stores::store_of;
