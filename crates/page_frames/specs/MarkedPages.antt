@@ -47,7 +47,10 @@ with_pages m first (suc count) = with_pages (with_page m first) (first + 1) coun
 -- bytes from an address on, whose pages are dirty
 abbrev pub with_bytes : MarkedPages → ℕ → List ℕ → MarkedPages
 with_bytes m address bytes =
-    record { pages = set_bytes m.pages address bytes; dirty = mark_bytes m.dirty address (length bytes) }
+    record {
+      pages = set_bytes m.pages address bytes;
+      dirty = mark_bytes m.dirty address (length bytes);
+    }
 
 -- what holds of every memory
 pub record IsKept (m : MarkedPages) : Type 0 where

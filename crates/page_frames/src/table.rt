@@ -91,7 +91,9 @@ impl Table {
         ensures table { IsTable self.new }
         ensures used { self.new.used ≡ self.old.used + 1 }
         ensures puts { let next = slice_index_or self.old.heads (page % BUCKETS) None in
-            Puts self.old page (record { bytes = bytes.now; page = page; next = next; place = place }) self.new }
+            Puts self.old page
+            (record { bytes = bytes.now; page = page; next = next; place = place })
+            self.new }
     {
         let bucket = (page % BUCKETS) as usize;
         let frame = &mut self.frames[self.used as usize];

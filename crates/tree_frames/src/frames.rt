@@ -17,7 +17,8 @@ use std::alloc::Global;
 use std::collections::BTreeMap;
 use std::marker::Model;
 
-/// The mapped pages of a program, at most 16,384, with the list of those that changed, which are called dirty.
+/// The mapped pages of a program, at most 16,384, with the list of those that changed, which are
+/// called dirty.
 #[derive(Drop)]
 pub struct TreeFrames {
     frames: BTreeMap<u32, Frame>,
@@ -50,7 +51,8 @@ impl TreeFrames {
         })
     }
 
-    /// Maps a page of zeros, which is dirty. A page that is mapped stays as it is. An `Err` changes nothing.
+    /// Maps a page of zeros, which is dirty. A page that is mapped stays as it is. An `Err` changes
+    /// nothing.
     pub fn map_page(&mut self, page: u32) -> Result<(), Memory>
         requires below { page < PROGRAM_PAGES }
         requires few { len self.old.pages < MOST_PAGES }
@@ -68,7 +70,8 @@ impl TreeFrames {
         Ok(())
     }
 
-    /// Maps pages of zeros, so many from one on, as `map_page` maps one. After an `Err` some of them are mapped.
+    /// Maps pages of zeros, so many from one on, as `map_page` maps one. After an `Err` some of
+    /// them are mapped.
     pub fn map_pages(&mut self, first: u32, count: u32) -> Result<(), Memory>
         requires below { first + count ≤ PROGRAM_PAGES }
         requires few { len (map_pages self.old.pages first count) ≤ MOST_PAGES }
@@ -205,7 +208,8 @@ impl TreeFrames {
         self.dirty.len() as u32
     }
 
-    /// The first dirty page, or the one after `at` in the order of marking, or `None` where there is none.
+    /// The first dirty page, or the one after `at` in the order of marking, or `None` where there
+    /// is none.
     pub fn next_dirty(&self, at: Option<u32>) -> Option<u32>
         requires { IfSome at (Contains self.now.dirty) }
         ensures first { IfNone at (result ≡ slice_get self.now.dirty 0) }
