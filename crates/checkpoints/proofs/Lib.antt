@@ -2,7 +2,10 @@ pub mod Options
 pub mod Missing
 pub mod Lists
 pub mod FirstPage
-pub mod Copying
+pub mod Sizes
+pub mod Compared
+pub mod Marked
+pub mod Puts
 pub mod Opened
 pub mod SmallMemory
 mod Rows

@@ -15,7 +15,7 @@ use Rattle.sl_model.proofs.Steps.{words-set_register}
 use Rattle.sl_model.proofs.PagesLaws.{is_some-set_bytes}
 use Rattle.sl_model.specs.State.{State, IsOpening}
 use Rattle.page_frames.specs.MarkedPages.{MarkedPages, with_page, with_bytes}
-use Rattle.checkpoints.proofs.Copying.{part_len}
+use Rattle.checkpoints.proofs.Sizes.{part_len}
 
 length-filter_le : (p : ℕ → Bool) (xs : List ℕ) → length (filter p xs) ≤ length xs
 length-filter_le p [] = omega arith

@@ -1,3 +1,5 @@
 pub mod Opening
 pub mod RecordedRun
 pub mod Memory
+pub mod Marked
+pub mod Putting

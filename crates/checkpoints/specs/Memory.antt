@@ -1,5 +1,6 @@
 -- The pages of memory that differ from those that a checkpoint records.
-use Rattle.std.specs.Prelude.{◌≡◌, ℕ, ◌*◌, ◌<◌, List, [], ◌∷◌, Option, Some, None, nat_lt, if◌then◌else◌, IsSome}
+use Rattle.std.specs.Prelude.{◌≡◌, ℕ, ◌*◌, ◌<◌, List, [], ◌∷◌, Option, Some, None}
+use Rattle.std.specs.Prelude.{Bool, false, nat_lt, nat_le, if◌then◌else◌, IsSome}
 use Rattle.std.specs.FinMap.{get, contains_key}
 use Rattle.sl_model.specs.Pages.{Pages}
 use Rattle.call_log.specs.declared.part.TheConstants.{PAGE}
@@ -23,6 +24,24 @@ IsFirstUnlike opened rec k pages (Some found) =
     (as_checkpoint_break k (mapped_diff opened rec k found.0 (get pages found.0)) ≡ Some found.1)
     × IsSome (get pages found.0)
     × ((q : ℕ) → q < found.0 → mapped_diff opened rec k q (get pages q) ≡ None)
+
+-- what is told of a page differs from what the checkpoint records
+abbrev pub IsUnlike : Pages → Recording → ℕ → Pages → Option (ℕ × BreakKind) → Type 0
+IsUnlike opened rec k pages None = Unit {0}
+IsUnlike opened rec k pages (Some found) =
+    (as_checkpoint_break k (mapped_diff opened rec k found.0 (get pages found.0)) ≡ Some found.1)
+    × IsSome (get pages found.0)
+
+-- a page was compared: it does not differ, or what is told is of a page that is not above it
+abbrev pub IsCompared : Pages → Recording → ℕ → Pages → Option (ℕ × BreakKind) → ℕ → Type 0
+IsCompared opened rec k pages None q = mapped_diff opened rec k q (get pages q) ≡ None
+IsCompared opened rec k pages (Some found) q =
+    q < found.0 → mapped_diff opened rec k q (get pages q) ≡ None
+
+-- whether what is told is of a page that is not above another one
+abbrev pub is_passed : Option (ℕ × BreakKind) → ℕ → Bool
+is_passed None page = false
+is_passed (Some found) page = nat_le found.0 page
 
 -- ---- listed pages that are not mapped
 

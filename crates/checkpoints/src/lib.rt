@@ -1,9 +1,9 @@
 //! The checkpoints of a recording: the page and the state that each of them records, and how a state differs from one.
 #![tactic(auto)]
 
-mod copies;
 mod differ;
 mod kept;
+mod laws;
 mod listed;
 mod mapping;
 mod pages;
@@ -11,6 +11,7 @@ mod parts;
 mod restore;
 
 pub use kept::Checkpoints;
+pub use laws::{comparisons_see_changes, recorded_states_hold_recorded};
 
 #[cfg(test)]
 mod tests;

@@ -1,13 +1,12 @@
 //! The state that a checkpoint records.
 
-ghost use Rattle.std.specs.Prelude.{◌≡◌, ℕ, ◌<◌, ◌≤◌, [], IfOk, OnOk};
+ghost use Rattle.std.specs.Prelude.{◌≡◌, ℕ, ◌<◌, ◌≤◌, [], OnOk};
 ghost use Rattle.sl_model.specs.Pages.{Pages};
 ghost use Rattle.rv_machine.specs.Machine.{state_of};
 ghost use Rattle.rec_format.specs.declared.recording.Recording.{Recording};
 ghost use Rattle.rec_format.specs.Recorded.{end_place, recorded_end, recorded_pages, recorded_state_of, recorded_state};
 ghost use Rattle.checkpoints.specs.RecordedRun.{opened_of};
 
-use crate::copies::copied_frames;
 use crate::kept::Checkpoints;
 use page_frames::Frames;
 use rec_format::CheckpointData;
@@ -63,23 +62,24 @@ impl Checkpoints {
         machine_of(&self.machine, self.checkpoint(k))
     }
 
-    /// The memory of checkpoint `k`, with this heap end.
-    fn pages_at(&self, k: u32, end: u32) -> Result<Frames, Memory>
+    /// Makes the memory of checkpoint `k`, with this heap end.
+    fn fill_pages(&self, k: u32, end: u32, f: &mut Frames) -> Result<(), Memory>
         requires within { k ≤ end_place self.now.rec }
         requires from { self.now.machine.layout.brk_start ≤ end }
         requires to { end ≤ self.now.machine.layout.heap_limit }
-        ensures { IfOk result
-            (λ f. f.pages ≡ recorded_pages self.now.rec (opened_of self.now) k end) }
+        ensures { OnOk result
+            (f.new.pages ≡ recorded_pages self.now.rec (opened_of self.now) k end) }
     {
-        let mut frames = copied_frames(self.alloc, &self.opening)?;
+        f.copy_from(&self.opening)?;
         let start = self.machine.layout.brk_start;
-        frames.map_pages(start / 4096, (end - start) / 4096)?;
-        self.put_lists(&mut frames, k);
-        Ok(frames)
+        f.map_pages(start / 4096, (end - start) / 4096)?;
+        f.clear_dirty();
+        self.put_lists(f, k);
+        Ok(())
     }
 
-    /// Makes the state that checkpoint `k` records, with no page marked as changed: the opening state for 0, and else a
-    /// program that runs.
+    /// Makes the state that checkpoint `k` records, with no page marked as changed: the opening
+    /// state for 0, and else a program that runs.
     ///
     /// # Errors
     ///
@@ -91,10 +91,9 @@ impl Checkpoints {
         ensures clean { OnOk result (f.new.dirty ≡ []) }
     {
         let machine = self.machine_at(k);
-        let mut frames = self.pages_at(k, machine.brk_end)?;
-        frames.clear_dirty();
+        self.fill_pages(k, machine.brk_end, f)?;
+        f.clear_dirty();
         *m = machine;
-        *f = frames;
         Ok(())
     }
 }

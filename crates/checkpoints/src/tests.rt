@@ -1,9 +1,10 @@
 //! Checkpoints of small recordings, with answers that were worked by hand.
 
-ghost use Rattle.std.specs.Prelude.{◌≡◌, ℕ, ◌≤◌, ◌⊎◌, IsSome, IfOk};
+ghost use Rattle.std.specs.Prelude.{◌≡◌, ℕ, ◌-◌, ◌≤◌, ◌⊎◌, IsSome, IfOk};
 ghost use Rattle.std.specs.FinMap.{get, len};
 ghost use Rattle.rv_machine.specs.Machine.{state_of};
 ghost use Rattle.sl_model.specs.State.{IsOpening};
+ghost use Rattle.checkpoints.specs.Marked.{HoldsRecorded, IsAllDirty};
 
 use crate::Checkpoints;
 use call_log::BreakKind;
@@ -57,6 +58,7 @@ fn memory(alloc: Global) -> Result<Frames, Memory>
     ensures pages { IfOk result
         (λ f. (page : ℕ) → IsSome (get f.pages page) → (page ≡ 16) ⊎ (page ≡ 20)) }
     ensures few { IfOk result (λ f. len f.pages ≤ 2) }
+    ensures dirty { IfOk result (λ f. IsAllDirty f) }
 {
     let mut frames = Frames::new(alloc)?;
     frames.map_page(16)?;
@@ -67,7 +69,8 @@ fn memory(alloc: Global) -> Result<Frames, Memory>
 
 /// The opening state of a program with that memory, and room for a heap of two pages from page 18 on.
 fn opening(alloc: Global) -> Result<(Machine, Frames), Memory>
-    ensures { IfOk result (λ p. IsOpening (state_of p.0 p.1.pages)) }
+    ensures opens { IfOk result (λ p. IsOpening (state_of p.0 p.1.pages)) }
+    ensures dirty { IfOk result (λ p. IsAllDirty p.1) }
 {
     let frames = memory(alloc)?;
     let _kept = frames.dirty_len();
@@ -113,8 +116,10 @@ fn plain(count: u32, pages: &[(u32, u8)]) -> Row<'_> {
     }
 }
 
-/// The state at a checkpoint that lists page 16 with nines.
-fn replayed(alloc: Global) -> Result<(Machine, Frames), Memory> {
+/// The state at a checkpoint that lists page 16 with nines. All its pages are dirty.
+fn replayed(alloc: Global) -> Result<(Machine, Frames), Memory>
+    ensures { IfOk result (λ p. IsAllDirty p.1) }
+{
     let (mut machine, mut frames) = opening(alloc)?;
     machine.pc = 0x10004;
     machine.x[10] = 5;
@@ -136,15 +141,17 @@ fn broke(index: u32, part: u32, at: u32, recorded: u32, replayed: u32) -> Option
     })
 }
 
-/// Compares a state with a checkpoint that is there.
+/// Compares a state with a checkpoint behind the opening one.
 fn expect(
     rt: &impl Abort,
     checkpoints: &Checkpoints,
     k: u32,
     state: &(Machine, Frames),
     found: Option<BreakKind>,
-) {
-    assert!(rt; k <= checkpoints.segments());
+)
+    requires { HoldsRecorded checkpoints.now.opening.pages checkpoints.now.rec (k - 1) state.now.1 }
+{
+    assert!(rt; 0 < k && k <= checkpoints.segments());
     let told = checkpoints.differs(k, &state.0, &state.1);
     assert!(rt; told == found);
 }
@@ -376,6 +383,30 @@ fn machines_of_checkpoints(rt: HostRuntime) -> Result<(), Fail> {
         0x12000,
         &[(16, Some(9)), (20, Some(3)), (17, None)],
     );
-    expect(&rt, &checkpoints, 2, &state, None);
+    Ok(())
+}
+
+/// What a run from checkpoint 1 changes: page 20, whose bytes are all 4 then.
+fn change_page(frames: &mut Frames, byte: u8) {
+    let bytes = [byte; 4096];
+    if frames.is_mapped(0x14000, 4096) {
+        frames.copy_in(0x14000, &bytes);
+    }
+}
+
+#[test]
+fn changes_alone_are_compared(rt: HostRuntime) -> Result<(), Fail> {
+    let rows = [plain(1, &[(16, 9)]), plain(2, &[(20, 4)])];
+    let checkpoints = kept(rt.alloc(), &rows, &plain(3, &[]))?;
+    let (mut machine, mut frames) = replayed(rt.alloc())?;
+    assert!(rt; 1 <= checkpoints.segments());
+    checkpoints.state_at(1, &mut machine, &mut frames)?;
+    change_page(&mut frames, 4);
+    assert_eq!(rt; frames.dirty_len(), 1);
+    assert!(rt; frames.is_dirty(20));
+    assert!(rt; 2 <= checkpoints.segments());
+    assert!(rt; checkpoints.differs(2, &machine, &frames).is_none());
+    frames.store(0x14000, 1, 1);
+    assert!(rt; checkpoints.differs(2, &machine, &frames) == broke(2, 35, 0x14000, 4, 1));
     Ok(())
 }

@@ -1,22 +1,41 @@
-use Rattle.std.proofs.Common.{◌+◌, ap, sym, subst, ◌∙◌, refl, arith, List}
+use Rattle.std.proofs.Common.{◌+◌, ◌-◌, ◌++◌, [], ap, sym, subst, ◌∙◌, refl, arith, List, append-nil, ◌≡◌}
 use Rattle.std.specs.List.{AllByRecursion}
 use Rattle.rec_format.specs.Rules.{IsListedPage}
 use Rattle.rec_format.specs.declared.recording.ListedPage.{ListedPage}
-use Rattle.rec_format.specs.Recorded.{put_all_listed}
+use Rattle.rec_format.specs.Recorded.{listed_to, put_all_listed}
 use Rattle.rec_format.proofs.Listed.{IsCheckpoint-at}
-use Rattle.checkpoints.proofs.Lists.{put_all_listed-next}
+use Rattle.checkpoints.proofs.Puts.{put-none, before-checkpoint}
 use Rattle.checkpoints.proofs.kept.Checkpoints.put_lists.Goals as goal
 
-pub loop-j-init : goal.loop-j-init
-unfolding put_all_listed
-loop-j-init c = refl
+pub loop-left-init : goal.loop-left-init
+loop-left-init c = record {
+  within = omega arith;
+  put = ([], sym (append-nil (listed_to c.args.self.now.rec c.args.k)), put-none c.args.frames.now c.requires.clean);
+}
 
 pub put_pages-requires : goal.put_pages-requires
 put_pages-requires c =
     subst (λ (pages : List ListedPage). AllByRecursion IsListedPage pages) (sym (c.as_slice.ensures ∙ ap (λ d. d.pages) c.checkpoint.ensures))
-    (IsCheckpoint-at c.args.self.now.rec (c.loop-j.j + 1) c.args.self.now.is_value).each_page
+    (IsCheckpoint-at c.args.self.now.rec c.loop-left.left c.args.self.now.is_value).each_page
 
-pub loop-j-preserved : goal.loop-j-preserved
-loop-j-preserved c =
-    c.put_pages.ensures ∙ ap (λ p. put_all_listed p c.as_slice.result.now) c.loop-j.invariant
-    ∙ sym (put_all_listed-next c.args.frames.now.pages c.args.self.now.rec c.loop-j.j _ (omega arith) (c.as_slice.ensures ∙ ap (λ d. d.pages) c.checkpoint.ensures))
+pub loop-left-preserved : goal.loop-left-preserved
+loop-left-preserved c =
+    let rec = c.args.self.now.rec in
+    let put = c.loop-left.invariant.put in
+    let pages = c.as_slice.result.now in
+    record {
+      within = omega (arith, c.loop-left.invariant.within);
+      put = (
+        pages ++ put.0,
+        before-checkpoint rec c.args.k c.loop-left.left put.0 pages (omega arith) (omega (arith, c.loop-left.invariant.within, c.requires.within))
+        (c.as_slice.ensures ∙ ap (λ d. d.pages) c.checkpoint.ensures) put.1,
+        c.put_pages.ensures c.args.frames.now.pages put.0 put.2,
+      );
+    }
+
+pub returns : goal.returns
+returns c =
+    let rec = c.args.self.now.rec in
+    let put = c.loop-left.invariant.put in
+    let end : c.loop-left.left ≡ 0 = omega arith in
+    put.2.pages ∙ ap (put_all_listed c.args.frames.now.pages) (sym (put.1 ∙ ap (λ n. listed_to rec n ++ put.0) end))
