@@ -3,3 +3,4 @@ pub mod Limits
 pub mod OneProof
 pub mod Script
 pub mod Meaning
+pub mod Firing

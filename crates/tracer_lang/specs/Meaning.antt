@@ -2,6 +2,7 @@
 -- statement and expression the parts are evaluated from left to right, and the tests are tried in
 -- the order in which they stand here.
 use Rattle.std.specs.Prelude.{ℕ, zero, suc, ◌+◌, ◌-◌, ◌==◌, ◌&&◌, List, [], ◌∷◌, ◌++◌, length, replicate, Option, Some, None, slice_index, slice_index_or, slice_set, nat_lt, if◌then◌else◌}
+use Rattle.std.specs.FinMap.{empty}
 use Rattle.sl_model.specs.declared.instr.LoadOp.{LoadOp}
 use Rattle.sl_model.specs.declared.instr.StoreOp.{StoreOp}
 use Rattle.sl_model.specs.Pages.{Pages, load_at, store_at}
@@ -244,11 +245,19 @@ end_of (Goes value now) = (Done, now)
 end_of (Returned value now) = (Done, now)
 end_of (Ended end now) = (end, now)
 
+-- the machine of which a tracer reads registers and bounds: memory it reads on its copy alone
+abbrev pub without_memory : State → State
+without_memory s = record s { pages = empty }
+
+-- what becomes of a tracer's body
+abbrev pub tracer_meaning : ScriptTree → TracepointTree → State → Now → Outcome
+tracer_meaning script t s now =
+    statements_meaning s (entering s script.functions most_open_calls) t.body now
+
 -- how a tracer of a script ends at a state, with its words and its stores
 unfoldable pub meaning : ScriptTree → TracepointTree → State → TracerEnd × Now
 meaning script t s =
-    end_of (statements_meaning s (entering s script.functions most_open_calls) t.body
-    (opening_now script t s))
+    end_of (tracer_meaning script t (without_memory s) (opening_now script t s))
 
 -- the record that the tracepoint of a number leaves at a state
 abbrev pub record_of : ScriptTree → ℕ → State → Record
