@@ -1,0 +1,7 @@
+pub mod Halting
+mod Storing
+pub mod Turning
+pub mod Entering
+pub mod Functions
+mod Loops
+mod Recorded

@@ -1,0 +1,10 @@
+//! What tracers do where they fire, on private copies of the machine and its memory.
+#![tactic(auto)]
+
+mod copying;
+mod progress;
+mod running;
+mod tracer;
+
+pub use copying::copy_of;
+pub use running::run_on_copy;
