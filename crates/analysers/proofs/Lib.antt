@@ -1,0 +1,5 @@
+pub mod Folds
+mod Merging
+mod Rests
+mod Pieces
+mod Meant

@@ -1,0 +1,11 @@
+pub mod Words
+pub mod Bins
+pub mod Numbers
+pub mod Kinds
+pub mod Locals
+pub mod Streams
+pub mod Parts
+pub mod Analyses
+pub mod BinLaws
+pub mod TreeLaws
+pub mod Meanings

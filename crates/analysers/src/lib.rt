@@ -1,0 +1,36 @@
+//! Analyses of records: what each kind gives, and how the parts of a run make the whole.
+#![tactic(auto)]
+
+mod analysis;
+mod class;
+mod folding;
+mod histogram;
+mod kind;
+mod kind_text;
+mod laws;
+mod local;
+mod numbers;
+mod open_records;
+mod part;
+mod record_words;
+mod row;
+mod stream;
+mod streams;
+#[cfg(test)]
+mod tests;
+mod tree;
+mod trees;
+
+pub use analysis::{analyse, push_part};
+pub use class::{Class, class_of};
+pub use folding::{feed_all, fold_records, join_values, push_passing, push_stream};
+pub use kind::{Kind, KindOf};
+pub use kind_text::read_kind;
+pub use laws::{folds_join, streams_go_on, trees_mean};
+pub use local::{Local, LocalKind};
+pub use part::{Bin, Part};
+pub use row::Row;
+pub use stream::Stream;
+pub use streams::{Changes, Open, Rising};
+pub use tree::Tree;
+pub use trees::TreeKind;
