@@ -1,11 +1,11 @@
 -- What the parts of the tree kinds say of records.
-use Rattle.std.proofs.Common.{◌≡◌, ℕ, ◌+◌, ◌%◌, ◌^◌, ◌<◌, ◌≤◌, min, max, Bool, true, false, eqb, cond, List, [], ◌∷◌, ◌++◌, length, get_or, Option, Some, None, ◌⊎◌, inl, inr, refl, sym, ap, subst, ◌∙◌, zero-add, add-zero, lit<, arith}
-use Rattle.std.specs.List.{All, Contains, fold, sum, sum_by, count_by, cons_option, filter_map, slice_get, last_or}
+use Rattle.std.proofs.Common.{◌≡◌, ℕ, ◌+◌, ◌%◌, ◌^◌, ◌≤◌, min, max, Bool, true, false, eqb, cond, List, [], ◌∷◌, length, get_or, Option, Some, None, inl, inr, refl, sym, ap, subst, ◌∙◌, zero-add, arith}
+use Rattle.std.specs.List.{Contains, sum, count_by, cons_option, slice_get, last_or}
 use Rattle.std.specs.Option.{option_or, unwrap_or}
-use Rattle.std.proofs.lemmas.Bool.{cases_lt, cases_eq, eq-eqb, ne_eqb}
-use Rattle.std.proofs.lemmas.List.Elements.{All-cons, All-nil, All-weaker, Contains-append_right, Contains-append_left}
+use Rattle.std.proofs.lemmas.Bool.{cases_lt, cases_eq, ne_eqb}
+use Rattle.std.proofs.lemmas.List.Elements.{All-cons, All-nil, All-weaker, Contains-append_right}
 use Rattle.std.proofs.lemmas.List.Sums.{sum_by-cons}
-use Rattle.std.proofs.Math.Nat.{mod-add-mod, add-mod-mod, mod-eq_of_lt}
+use Rattle.std.proofs.Math.Nat.{mod-add-mod, add-mod-mod}
 use Rattle.tracer_lang.specs.declared.record.Record.{Record}
 use Rattle.analysers.specs.declared.part.Bin.{Bin}
 use Rattle.analysers.specs.declared.part.Part.{Part}
@@ -13,10 +13,10 @@ use Rattle.analysers.specs.declared.part.Part.TheVariants as part
 use Rattle.analysers.specs.declared.trees.TreeKind.{TreeKind}
 use Rattle.analysers.specs.declared.trees.TreeKind.TheVariants.{Count, Sum, Least, Greatest, Hist, First, Last}
 use Rattle.analysers.specs.Analyses.{part_of_all}
-use Rattle.analysers.specs.Bins.{IsRising, added, join_bins, count_at}
+use Rattle.analysers.specs.Bins.{added, join_bins, count_at}
 use Rattle.analysers.specs.BinLaws.{both, count_at-join, join_bins-rising}
 use Rattle.analysers.specs.Meanings.{words_at, IsLeast, IsGreatest, number_of, IsHistogram}
-use Rattle.analysers.specs.Parts.{Fits, no_part, part_of, join_parts, bin_of, folded}
+use Rattle.analysers.specs.Parts.{Fits, no_part, part_of, join_parts, bin_of}
 use Rattle.analysers.specs.TreeLaws.{no_part-fits, part_of-fits, join_parts-fits, join_parts-left, join_parts-right, join_parts-association, bin_of-rising}
 use Rattle.analysers.specs.Words.{word_at, lesser, greater}
 use Rattle.analysers.proofs.Folds.{Joins, folded-cons}

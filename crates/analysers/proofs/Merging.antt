@@ -1,5 +1,5 @@
 -- One step of the join of two rising lists of bins.
-use Rattle.std.proofs.Common.{◌≡◌, ℕ, ◌<◌, List, [], ◌∷◌, ◌++◌, sym, ap, subst, ◌∙◌, ◌⊎◌, inl, inr, append_assoc, append-nil}
+use Rattle.std.proofs.Common.{◌≡◌, ◌<◌, List, [], ◌∷◌, ◌++◌, sym, ap, subst, ◌∙◌, ◌⊎◌, inl, inr, append_assoc, append-nil}
 use Rattle.analysers.specs.declared.part.Bin.{Bin}
 use Rattle.analysers.specs.Bins.{IsRising, added, join_bins}
 use Rattle.analysers.specs.BinLaws.{join_bins-none, join_bins-less, join_bins-greater, join_bins-same}

@@ -1,5 +1,5 @@
 -- What an analysis gives of records.
-use Rattle.std.specs.Prelude.{ℕ, List, [], ◌∷◌, map, filter, None, option_to_list}
+use Rattle.std.specs.Prelude.{List, [], ◌∷◌, map, filter, None, option_to_list}
 use Rattle.tracer_lang.specs.declared.record.Record.{Record}
 use Rattle.analysers.specs.declared.kind.KindOf.{KindOf}
 use Rattle.analysers.specs.declared.kind.KindOf.TheVariants as kind

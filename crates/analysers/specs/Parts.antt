@@ -1,5 +1,5 @@
 -- The analyses whose parts can be joined.
-use Rattle.std.specs.Prelude.{◌≡◌, ℕ, ◌%◌, ◌^◌, ◌<◌, List, [], ◌∷◌, map, fold, Option, Some, None, unwrap_or, option_to_list}
+use Rattle.std.specs.Prelude.{◌≡◌, ℕ, ◌%◌, ◌^◌, ◌<◌, List, [], ◌∷◌, fold, Option, Some, None, unwrap_or}
 use Rattle.std.specs.Option.{option_or}
 use Rattle.tracer_lang.specs.declared.record.Record.{Record}
 use Rattle.analysers.specs.declared.part.Bin.{Bin}

@@ -1,5 +1,5 @@
 -- The laws of the kinds whose parts are joined, by kind.
-use Rattle.std.proofs.Common.{◌≡◌, ℕ, ◌+◌, ◌%◌, ◌^◌, ◌<◌, min, max, List, [], ◌∷◌, Option, Some, None, refl, sym, ap, subst, ◌∙◌, zero-add, add-zero, lit<, arith}
+use Rattle.std.proofs.Common.{◌≡◌, ℕ, ◌%◌, ◌^◌, ◌<◌, min, max, List, [], Option, Some, None, refl, sym, ap, subst, ◌∙◌, zero-add, add-zero, lit<, arith}
 use Rattle.std.specs.Option.{option_or, unwrap_or}
 use Rattle.std.proofs.lemmas.Nat.{mod_below}
 use Rattle.std.proofs.Math.Nat.{mod-eq_of_lt}
