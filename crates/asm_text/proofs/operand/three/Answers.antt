@@ -1,0 +1,7 @@
+use Rattle.asm_text.proofs.Pieces.{four_or_more}
+use Rattle.asm_text.proofs.operand.three.Goals as goal
+
+pub returns-in_default-Some : goal.returns-in_default-Some
+returns-in_default-Some c = four_or_more _ _ _ _ _ _ _ (rw c.in-Some.is at c.first_piece.ensures.pieces)
+    (rw c.in-Some-rest.is at c.first_piece-2.ensures.pieces)
+    (rw c.in_default-Some.is-1 at c.first_piece-3.ensures.pieces)

@@ -1,0 +1,7 @@
+pub mod Bytes
+pub mod Numbers
+pub mod Names
+pub mod Lines
+pub mod Operands
+pub mod Statements
+pub mod Views
