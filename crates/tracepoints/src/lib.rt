@@ -4,6 +4,8 @@
 mod fired;
 mod filter;
 mod points;
+#[cfg(test)]
+mod tests;
 
 pub use fired::Fired;
 pub use points::Points;

@@ -4,6 +4,8 @@
 mod copying;
 mod progress;
 mod running;
+#[cfg(test)]
+mod tests;
 mod tracer;
 
 pub use copying::copy_of;
