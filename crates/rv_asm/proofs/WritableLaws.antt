@@ -11,7 +11,8 @@ use Rattle.std.proofs.lemmas.List.FromFn.{length-range_with_len}
 use Rattle.sl_base.specs.declared.symbol.Symbol.{Symbol}
 use Rattle.elf_image.specs.declared.image.Image.{Image}
 use Rattle.elf_image.specs.declared.image.Segment.{Segment}
-use Rattle.elf_image.specs.Flat.{page_count, meets_stack, MOST_LOADED_PAGES, STACK_PAGES, FIRST_STACK_PAGE, PAGE_SIZE}
+use Rattle.sl_model.specs.declared.layout.TheConstants.{PAGE_SIZE, FIRST_STACK_PAGE, STACK_PAGES}
+use Rattle.elf_image.specs.Flat.{page_count, meets_stack}
 use Rattle.elf_image.specs.Loadable.{takes_memory, segment_pages, page_set, number_of_pages, ShareNoByte, IsPlaced, IsNamed, IsLoadable}
 use Rattle.elf_image.specs.Written.{half, word, aligned, padding, segment_bytes, string_table, names, layout_of, file_header, header_of, headers_of, entry_of, entries_of, entries, symbols_section, strings_section, program_part, written, IsName, IsWritable}
 use Rattle.elf_image.proofs.PageSet.{len-from_list-le}
