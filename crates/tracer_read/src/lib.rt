@@ -1,0 +1,6 @@
+//! Reads tracer scripts: the tree of a text, or its first fault.
+#![tactic(auto)]
+
+mod heads;
+mod numbers;
+mod parts;
