@@ -1,3 +1,5 @@
 pub mod Parts
 pub mod Numbers
 pub mod Heads
+pub mod Expressions
+pub mod Views

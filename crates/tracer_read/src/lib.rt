@@ -1,6 +1,8 @@
 //! Reads tracer scripts: the tree of a text, or its first fault.
 #![tactic(auto)]
 
+mod context;
+mod expressions;
 mod heads;
 mod numbers;
 mod parts;

@@ -1,0 +1,4 @@
+mod Chains
+mod Places
+mod Refusals
+mod Called
