@@ -5,10 +5,13 @@ use Rattle.sl_base.specs.declared.refused.Refused.TheVariants.{Fault, Memory}
 use Rattle.sl_base.specs.Refusals.{Fails}
 use Rattle.tracer_text.specs.declared.fault.ScriptFault.{ScriptFault}
 use Rattle.tracer_lang.specs.declared.tree.Expr.{Expr}
-use Rattle.tracer_lang.specs.Tree.{Expression, Arguments, argument, expression_of, arguments_before}
+use Rattle.tracer_lang.specs.declared.tree.Stmt.{Stmt}
+use Rattle.tracer_lang.specs.Tree.{Expression, Arguments, argument, expression_of, arguments_before, Statement, Statements, statement, statement_of, statements_before}
+use Rattle.tracer_text.specs.declared.token.Token.{Token}
 use Rattle.tracer_read.specs.Parts.{◌>>=◌}
 use Rattle.tracer_read.specs.Expressions.{all}
-use Rattle.tracer_read.proofs.Chains.{last_argument}
+use Rattle.tracer_read.specs.Statements.{Reading, Step, in_order}
+use Rattle.tracer_read.proofs.Chains.{last_argument, last_statement}
 
 -- a refusal of the first step is one of both
 pub Fails-bind : {A B : Type 0} (e : Refused ScriptFault) (r : Result A ScriptFault) (f : A → Result B ScriptFault)
@@ -37,3 +40,15 @@ fails_here front e r more h =
 pub Fails-told : {A : Type 0} (e : Refused ScriptFault) (f : ScriptFault) (r : Result A ScriptFault)
     → e ≡ Fault f → r ≡ Err f → Fails e r
 Fails-told e f r told due = subst (λ (e : Refused ScriptFault). Fails e r) (sym told) due
+
+-- statements that are read go on with those that are left
+abbrev pub with_statements : List Stmt → Reading Statements → Reading Statements
+with_statements front rest = rest >>= λ x. Ok (statements_before (map statement_of front) x.0, x.1)
+
+pub read_statement : (front : List Stmt) (s : Stmt) (step : Step) (steps : List Step) (before after : List Token)
+    → step before ≡ Ok (statement_of s, after)
+    → with_statements (front ++ s ∷ []) (in_order steps after) ≡ with_statements front (in_order (step ∷ steps) before)
+read_statement front s step steps before after is =
+    subst (λ r. with_statements (front ++ s ∷ []) (in_order steps after) ≡ with_statements front (r >>= λ first. in_order steps first.1 >>= λ rest. Ok (statement first.0 rest.0, rest.1))) (sym is)
+    (elim (in_order steps after) as (λ rest. with_statements (front ++ s ∷ []) rest ≡ with_statements front (rest >>= λ rest. Ok (statement (statement_of s) rest.0, rest.1)))
+    [ Ok x ↦ ap (λ ss. Ok (ss, x.1)) (last_statement (front ++ s ∷ []) front s x.0 refl) | Err e ↦ refl ])

@@ -16,8 +16,10 @@ use Rattle.tracer_lang.specs.declared.tree.Operator.{Operator}
 use Rattle.tracer_lang.specs.declared.tree.Operator.TheVariants as operators
 use Rattle.tracer_read.specs.declared.heads.ExpressionHead.{ExpressionHead}
 use Rattle.tracer_read.specs.declared.heads.ExpressionHead.TheVariants.{Sym, Reg, Pc, Not, Call, Sys, Load, Operation}
+use Rattle.tracer_read.specs.declared.heads.ValueHead.{ValueHead}
+use Rattle.tracer_read.specs.declared.heads.ValueHead.TheVariants.{Emit, Return, Stop, Run}
 use Rattle.tracer_read.specs.declared.heads.StatementHead.{StatementHead}
-use Rattle.tracer_read.specs.declared.heads.StatementHead.TheVariants.{Emit, Var, Set, Do, If, While, Return, Stop, Run, Store}
+use Rattle.tracer_read.specs.declared.heads.StatementHead.TheVariants.{Var, Set, Do, If, While, Store, Value}
 use Rattle.tracer_read.specs.declared.heads.ItemHead.{ItemHead}
 use Rattle.tracer_read.specs.declared.heads.ItemHead.TheVariants.{Budget, Def, At}
 use Rattle.tracer_read.specs.declared.heads.PointHead.{PointHead}
@@ -101,21 +103,24 @@ expression_head word =
 abbrev pub store_names : List (List ℕ × StoreOp)
 store_names = (codes "store1", Sb) ∷ (codes "store2", Sh) ∷ (codes "store4", Sw) ∷ []
 
+-- statements of one value
+abbrev pub value_statement_names : List (List ℕ × ValueHead)
+value_statement_names =
+    (codes "emit", Emit) ∷ (codes "return", Return) ∷ (codes "stop", Stop) ∷ (codes "run", Run) ∷ []
+
 abbrev pub step_names : List (List ℕ × StatementHead)
 step_names =
-    (codes "emit", Emit)
-    ∷ (codes "var", Var)
+    (codes "var", Var)
     ∷ (codes "set", Set)
     ∷ (codes "do", Do)
     ∷ (codes "if", If)
     ∷ (codes "while", While)
-    ∷ (codes "return", Return)
-    ∷ (codes "stop", Stop)
-    ∷ (codes "run", Run)
     ∷ []
 
 abbrev pub statement_head : List ℕ → Option StatementHead
-statement_head word = option_or (named word step_names) (option_map Store (named word store_names))
+statement_head word =
+    option_or (option_map Value (named word value_statement_names))
+    (option_or (option_map Store (named word store_names)) (named word step_names))
 
 -- ---- the top level, and points
 

@@ -3,3 +3,4 @@ pub mod Numbers
 pub mod Heads
 pub mod Expressions
 pub mod Views
+pub mod Statements

@@ -2,7 +2,7 @@
 
 ghost use Rattle.std.specs.Prelude.{◌≡◌};
 ghost use Rattle.std.specs.Str.{bytes_eq};
-ghost use Rattle.tracer_read.specs.Heads.{named, register_names, mul_div_names, branch_names, exchanged_names, operator_of, load_names, value_names, expression_head, store_names, step_names, statement_head, item_names, point_names};
+ghost use Rattle.tracer_read.specs.Heads.{named, register_names, mul_div_names, branch_names, exchanged_names, operator_of, load_names, value_names, expression_head, store_names, value_statement_names, step_names, statement_head, item_names, point_names};
 
 use sl_model::{BranchOp, LoadOp, MulDivOp, RegisterOp, StoreOp};
 use tracer_lang::Operator;
@@ -20,19 +20,25 @@ pub enum ExpressionHead {
     Operation(Operator),
 }
 
+/// What a statement does with the one value that it has.
+#[derive(Clone, Copy, Debug, PartialEq, Eq)]
+pub enum ValueHead {
+    Emit,
+    Return,
+    Stop,
+    Run,
+}
+
 /// What a list at a statement's place is.
 #[derive(Clone, Copy, Debug, PartialEq, Eq)]
 pub enum StatementHead {
-    Emit,
     Var,
     Set,
     Do,
     If,
     While,
-    Return,
-    Stop,
-    Run,
     Store(StoreOp),
+    Value(ValueHead),
 }
 
 /// What a list at the top level is.
@@ -215,12 +221,26 @@ fn store_op(word: &[u8]) -> Option<StoreOp>
     }
 }
 
+fn value_statement(word: &[u8]) -> Option<ValueHead>
+    ensures { result ≡ named word.now value_statement_names }
+{
+    if is(word, "emit") {
+        Some(ValueHead::Emit)
+    } else if is(word, "return") {
+        Some(ValueHead::Return)
+    } else if is(word, "stop") {
+        Some(ValueHead::Stop)
+    } else if is(word, "run") {
+        Some(ValueHead::Run)
+    } else {
+        None
+    }
+}
+
 fn step_head(word: &[u8]) -> Option<StatementHead>
     ensures { result ≡ named word.now step_names }
 {
-    if is(word, "emit") {
-        Some(StatementHead::Emit)
-    } else if is(word, "var") {
+    if is(word, "var") {
         Some(StatementHead::Var)
     } else if is(word, "set") {
         Some(StatementHead::Set)
@@ -230,12 +250,6 @@ fn step_head(word: &[u8]) -> Option<StatementHead>
         Some(StatementHead::If)
     } else if is(word, "while") {
         Some(StatementHead::While)
-    } else if is(word, "return") {
-        Some(StatementHead::Return)
-    } else if is(word, "stop") {
-        Some(StatementHead::Stop)
-    } else if is(word, "run") {
-        Some(StatementHead::Run)
     } else {
         None
     }
@@ -245,13 +259,13 @@ fn step_head(word: &[u8]) -> Option<StatementHead>
 pub fn statement_head(word: &[u8]) -> Option<StatementHead>
     ensures { result ≡ statement_head word.now }
 {
-    if let Some(head) = step_head(word) {
-        return Some(head);
+    if let Some(head) = value_statement(word) {
+        return Some(StatementHead::Value(head));
     }
-    match store_op(word) {
-        Some(op) => Some(StatementHead::Store(op)),
-        None => None,
+    if let Some(op) = store_op(word) {
+        return Some(StatementHead::Store(op));
     }
+    step_head(word)
 }
 
 /// What a list of the top level is that begins with a word.

@@ -6,3 +6,4 @@ mod expressions;
 mod heads;
 mod numbers;
 mod parts;
+mod statements;

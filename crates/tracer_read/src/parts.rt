@@ -1,6 +1,6 @@
 //! The parts of lists.
 
-ghost use Rattle.std.specs.Prelude.{◌≡◌, ◌==◌};
+ghost use Rattle.std.specs.Prelude.{◌≡◌, ◌≤◌, ◌==◌, length, OnOk};
 ghost use Rattle.sl_base.specs.Refusals.{Gives};
 ghost use Rattle.tracer_text.specs.Nodes.{tree_of, trees_of};
 ghost use Rattle.tracer_read.specs.Parts.{spelling, place_of, word_of, number_of, number_within, name_index, new_name, new_local, symbol_value, symbol_of, only_part, two_parts, part_count};
@@ -113,7 +113,10 @@ pub fn new_local(
     names: &mut Vec<Token>,
     token: Token,
 ) -> Result<(), Refused<ScriptFault>>
-    ensures { Gives (λ _. names.new.items) result (new_local text.now names.old.items token) }
+    requires { length names.old.items ≤ 16 }
+    ensures value { Gives (λ _. names.new.items) result
+        (new_local text.now names.old.items token) }
+    ensures few { OnOk result (length names.new.items ≤ 16) }
 {
     let locals = names.len();
     new_name(text, names, token)?;
