@@ -4,3 +4,5 @@ pub mod Heads
 pub mod Expressions
 pub mod Views
 pub mod Statements
+pub mod Scripts
+pub mod Drafts

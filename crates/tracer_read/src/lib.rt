@@ -2,8 +2,11 @@
 #![tactic(auto)]
 
 mod context;
+mod draft;
 mod expressions;
+
 mod heads;
 mod numbers;
 mod parts;
 mod statements;
+mod scripts;

@@ -1,6 +1,7 @@
 //! The parts of lists.
 
 ghost use Rattle.std.specs.Prelude.{◌≡◌, ◌≤◌, ◌==◌, length, OnOk};
+ghost use Rattle.std.specs.Result.{result_ok};
 ghost use Rattle.sl_base.specs.Refusals.{Gives};
 ghost use Rattle.tracer_text.specs.Nodes.{tree_of, trees_of};
 ghost use Rattle.tracer_read.specs.Parts.{spelling, place_of, word_of, number_of, number_within, name_index, new_name, new_local, symbol_value, symbol_of, only_part, two_parts, part_count};
@@ -29,12 +30,22 @@ pub fn spelling(text: &[u8], token: Token) -> &[u8]
 }
 
 /// The offset of a node's first byte.
-fn place_of(node: &Node) -> u32
+pub fn place_of(node: &Node) -> u32
     ensures { result ≡ place_of (tree_of node.now) }
 {
     match node {
         Node::Atom(token) => token.place,
         Node::List(place, _) => *place,
+    }
+}
+
+/// The word that a node is.
+pub fn word(text: &[u8], node: &Node) -> Option<Token>
+    ensures { result ≡ result_ok (word_of text.now (tree_of node.now)) }
+{
+    match node {
+        Node::Atom(token) if !is_number(spelling(text, *token)) => Some(*token),
+        _ => None,
     }
 }
 
