@@ -1,5 +1,5 @@
 -- Scripts as trees, without the places in memory.
-use Rattle.std.specs.Prelude.{ℕ, List, [], ◌∷◌, map}
+use Rattle.std.specs.Prelude.{ℕ, List, map}
 use Rattle.sl_model.specs.declared.instr.LoadOp.{LoadOp}
 use Rattle.sl_model.specs.declared.instr.StoreOp.{StoreOp}
 use Rattle.tracer_lang.specs.declared.tree.Operator.{Operator}
@@ -125,12 +125,3 @@ script_of budget functions tracepoints = record {
   functions = map function_of functions;
   tracepoints = map tracepoint_of tracepoints;
 }
-
--- some expressions in front of arguments, and some statements in front of others
-abbrev pub arguments_before : List Expression → Arguments → Arguments
-arguments_before [] rest = rest
-arguments_before (e ∷ es) rest = argument e (arguments_before es rest)
-
-abbrev pub statements_before : List Statement → Statements → Statements
-statements_before [] rest = rest
-statements_before (s ∷ ss) rest = statement s (statements_before ss rest)

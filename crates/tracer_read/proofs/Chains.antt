@@ -3,7 +3,8 @@ use Rattle.std.proofs.Common.{◌≡◌, List, [], ◌∷◌, ◌++◌, map, ref
 use Rattle.std.proofs.lemmas.List.{map-append}
 use Rattle.tracer_lang.specs.declared.tree.Expr.{Expr}
 use Rattle.tracer_lang.specs.declared.tree.Stmt.{Stmt}
-use Rattle.tracer_lang.specs.Tree.{Expression, Arguments, argument, Statement, Statements, statement, expression_of, statement_of, arguments_before, statements_before}
+use Rattle.tracer_lang.specs.Tree.{Expression, Arguments, argument, Statement, Statements, statement, expression_of, statement_of}
+use Rattle.tracer_read.specs.Fronts.{arguments_before, statements_before}
 
 arguments_before-push : (es : List Expression) (e : Expression) (rest : Arguments)
     → arguments_before (es ++ e ∷ []) rest ≡ arguments_before es (argument e rest)

@@ -2,3 +2,4 @@ mod Chains
 mod Places
 mod Refusals
 mod Called
+mod Sizes

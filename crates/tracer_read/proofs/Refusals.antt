@@ -6,7 +6,8 @@ use Rattle.sl_base.specs.Refusals.{Fails}
 use Rattle.tracer_text.specs.declared.fault.ScriptFault.{ScriptFault}
 use Rattle.tracer_lang.specs.declared.tree.Expr.{Expr}
 use Rattle.tracer_lang.specs.declared.tree.Stmt.{Stmt}
-use Rattle.tracer_lang.specs.Tree.{Expression, Arguments, argument, expression_of, arguments_before, Statement, Statements, statement, statement_of, statements_before}
+use Rattle.tracer_lang.specs.Tree.{Expression, Arguments, argument, expression_of, Statement, Statements, statement, statement_of}
+use Rattle.tracer_read.specs.Fronts.{arguments_before, statements_before}
 use Rattle.tracer_text.specs.declared.token.Token.{Token}
 use Rattle.tracer_read.specs.Parts.{◌>>=◌}
 use Rattle.tracer_read.specs.Expressions.{all}

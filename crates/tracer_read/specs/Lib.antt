@@ -1,3 +1,4 @@
+pub mod Fronts
 pub mod Parts
 pub mod Numbers
 pub mod Heads

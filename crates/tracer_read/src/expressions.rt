@@ -3,7 +3,8 @@
 ghost use Rattle.std.specs.Prelude.{◌≡◌, ◌<◌, ◌≤◌, [], length, map, position, IfOk, IfSome};
 ghost use Rattle.std.specs.Str.{bytes_eq};
 ghost use Rattle.sl_base.specs.Refusals.{Gives};
-ghost use Rattle.tracer_lang.specs.Tree.{expression_of, arguments_of, arguments_before, no_arguments, program_counter};
+ghost use Rattle.tracer_lang.specs.Tree.{expression_of, arguments_of, no_arguments, program_counter};
+ghost use Rattle.tracer_read.specs.Fronts.{arguments_before};
 ghost use Rattle.tracer_text.specs.Nodes.{tree_of, trees_of};
 ghost use Rattle.tracer_read.specs.Heads.{expression_head};
 ghost use Rattle.tracer_read.specs.Parts.{one, two, no_part, spelling};

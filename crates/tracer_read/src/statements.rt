@@ -2,7 +2,8 @@
 
 ghost use Rattle.std.specs.Prelude.{◌≡◌, ◌≤◌, length, map, IfOk, OnOk, Some};
 ghost use Rattle.sl_base.specs.Refusals.{Gives};
-ghost use Rattle.tracer_lang.specs.Tree.{expression_of, statement_of, statements_of, statements_before, no_statements};
+ghost use Rattle.tracer_lang.specs.Tree.{expression_of, statement_of, statements_of, no_statements};
+ghost use Rattle.tracer_read.specs.Fronts.{statements_before};
 ghost use Rattle.tracer_text.specs.Nodes.{tree_of, trees_of};
 ghost use Rattle.tracer_read.specs.Heads.{statement_head};
 ghost use Rattle.tracer_read.specs.Expressions.{head, expressions};

@@ -1,3 +1,2 @@
 mod Skips
 mod Within
-pub mod Sizes

@@ -1,5 +1,6 @@
 use Rattle.std.proofs.Common.{◌≡◌, map, vec_len}
-use Rattle.tracer_lang.specs.Tree.{expression_of, arguments_of, arguments_before, no_arguments}
+use Rattle.tracer_lang.specs.Tree.{expression_of, arguments_of, no_arguments}
+use Rattle.tracer_read.specs.Fronts.{arguments_before}
 use Rattle.tracer_read.proofs.expressions.chained.Given as goal
 
 abbrev pub invariant-loop-last : goal.invariant-loop-last

@@ -1,5 +1,6 @@
 use Rattle.std.proofs.Common.{◌≡◌, map, vec_len}
-use Rattle.tracer_lang.specs.Tree.{statement_of, statements_of, statements_before, no_statements}
+use Rattle.tracer_lang.specs.Tree.{statement_of, statements_of, no_statements}
+use Rattle.tracer_read.specs.Fronts.{statements_before}
 use Rattle.tracer_read.proofs.statements.chained.Given as goal
 
 abbrev pub invariant-loop-last : goal.invariant-loop-last
