@@ -3,3 +3,6 @@ mod Places
 mod Refusals
 mod Called
 mod Sizes
+mod Sound
+mod SmallNumbers
+mod SoundExpressions
