@@ -6,3 +6,8 @@ mod Sizes
 mod Sound
 mod SmallNumbers
 mod SoundExpressions
+mod Monotone
+mod SoundStatements
+mod Accepted
+mod SoundScripts
+mod Whole

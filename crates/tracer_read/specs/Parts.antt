@@ -1,5 +1,5 @@
 -- The parts of lists: how many there are, and what stands in their places.
-use Rattle.std.specs.Prelude.{ℕ, ◌+◌, ◌==◌, ◌&&◌, Bool, nat_le, List, [], ◌∷◌, ◌++◌, length, slice_range, position, Option, Some, None, is_some, Result, Ok, Err, if◌then◌else◌}
+use Rattle.std.specs.Prelude.{ℕ, ◌+◌, ◌%◌, ◌^◌, ◌==◌, ◌&&◌, Bool, nat_le, List, [], ◌∷◌, ◌++◌, length, slice_range, position, Option, Some, None, is_some, Result, Ok, Err, if◌then◌else◌}
 use Rattle.std.specs.Str.{bytes_eq}
 use Rattle.sl_base.specs.declared.symbol.Symbol.{Symbol}
 use Rattle.tracer_text.specs.declared.fault.ScriptCause.{ScriptCause}
@@ -69,11 +69,11 @@ new_local text names token = do
   more ← new_name text names token
   unless (length names == 16) token.place TooLarge (Ok more)
 
--- the value of the first symbol of this name
+-- the value of the first symbol of this name, as a word
 abbrev pub symbol_value : List Symbol → List ℕ → Option ℕ
 symbol_value [] name = None
 symbol_value (symbol ∷ symbols) name =
-    if bytes_eq symbol.name name then Some symbol.value else symbol_value symbols name
+    if bytes_eq symbol.name name then Some (symbol.value % 2 ^ 32) else symbol_value symbols name
 
 -- a symbol's value, in a place that takes a symbol
 abbrev pub symbol_of : List ℕ → List Symbol → Tree → Result ℕ ScriptFault

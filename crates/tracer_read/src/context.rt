@@ -15,6 +15,7 @@ pub struct Signature<'a> {
 }
 
 /// What a script's parts are read with.
+#[derive(Drop)]
 pub struct Context<'a> {
     /// The script's text.
     pub text: &'a [u8],

@@ -4,9 +4,11 @@
 mod context;
 mod draft;
 mod expressions;
-
 mod heads;
 mod numbers;
 mod parts;
-mod statements;
+mod reading;
 mod scripts;
+mod statements;
+
+pub use reading::read_script;

@@ -1,6 +1,6 @@
 //! The parts of lists.
 
-ghost use Rattle.std.specs.Prelude.{◌≡◌, ◌≤◌, ◌==◌, length, OnOk};
+ghost use Rattle.std.specs.Prelude.{◌≡◌, ◌≤◌, ◌==◌, ◌%◌, ◌^◌, length, OnOk};
 ghost use Rattle.std.specs.Result.{result_ok};
 ghost use Rattle.sl_base.specs.Refusals.{Gives};
 ghost use Rattle.tracer_text.specs.Nodes.{tree_of, trees_of};
@@ -137,13 +137,20 @@ pub fn new_local(
     Ok(())
 }
 
+/// What a symbol stands for.
+fn value_of(symbol: &Symbol) -> u32
+    ensures { result ≡ symbol.now.value % 2 ^ 32 }
+{
+    symbol.value
+}
+
 /// The value of the first symbol of a name.
 fn symbol_value(symbols: &[Symbol], name: &[u8]) -> Option<u32>
     ensures { result ≡ symbol_value symbols.now name.now }
 {
     for symbol in symbols {
         if symbol.name.as_slice() == name {
-            return Some(symbol.value);
+            return Some(value_of(symbol));
         }
     }
     None
