@@ -98,7 +98,8 @@ begins_below address len at width some wide below false e =
 
 -- the range begins behind the store
 pub begins_above : (address len at width : ℕ) → at + width ≤ address → (b : Bool)
-    → b ≡ nat_lt address (at + width) → b ≡ list_any (is_among address len) (range_with_len at width)
+    → b ≡ nat_lt address (at + width)
+    → b ≡ list_any (is_among address len) (range_with_len at width)
 begins_above address len at width apart true e =
     absurd (grind (arith, nat_tests))
 begins_above address len at width apart false e = sym (below_range address len at width apart)
@@ -174,7 +175,8 @@ passed_over f points s caught quiet =
     let inside : i < length points = rw (length-range_with_len 0 (length points)) at within in
     let number : slice_index_or (range_with_len 0 (length points)) i d ≡ i =
     get_or-range_with_len 0 (length points) i d inside ∙ omega arith in
-    rw number (caught_or_silent f s (slice_index_or points i (Addr 0)) (caught i (Addr 0) inside) quiet))
+    rw number (caught_or_silent f s (slice_index_or points i (Addr 0)) (caught i (Addr 0) inside)
+    quiet))
 
 range_more : (a n : ℕ) → range_with_len a (suc n) ≡ range_with_len a n ++ (a + n) ∷ []
 range_more a zero = let e : a + 0 ≡ a = omega arith in rw e refl

@@ -10,4 +10,5 @@ returns-else-may_fire c =
     sym c.may_fire.ensures ∙ c.if-may_fire.false in
     c.clear.ensures
     ∙ sym (passed_over c.self.inside.filter c.args.self.now
-    (state_of c.args.m.now c.args.f.now.pages) (rw (← c.self.view_is) c.self.invariant.caught) quiet)
+    (state_of c.args.m.now c.args.f.now.pages) (rw (← c.self.view_is) c.self.invariant.caught)
+    quiet)

@@ -26,7 +26,8 @@ pub returns : goal.returns
 returns c =
     let whole = take_all c.loop-tracepoint.tracepoint-index c.as_slice-tracepoint-items.result.now
     c.loop-tracepoint-test.false in
-    c.loop-tracepoint.invariant.0 ∙ ap (map (λ (t : Tracepoint). t.point)) (whole ∙ c.as_slice-tracepoint-items.ensures)
+    c.loop-tracepoint.invariant.0
+    ∙ ap (map (λ (t : Tracepoint). t.point)) (whole ∙ c.as_slice-tracepoint-items.ensures)
     ∙ sym (points_of-trees c.args.script.now.tracepoints)
 
 pub invariant_of-result : goal.invariant_of-result
@@ -34,7 +35,8 @@ invariant_of-result c =
     let whole = take_all c.loop-tracepoint.tracepoint-index c.as_slice-tracepoint-items.result.now
     c.loop-tracepoint-test.false in
     let same : c.loop-tracepoint.points ≡ points_of (tree_of c.args.script.now) =
-    c.loop-tracepoint.invariant.0 ∙ ap (map (λ (t : Tracepoint). t.point)) (whole ∙ c.as_slice-tracepoint-items.ensures)
+    c.loop-tracepoint.invariant.0
+    ∙ ap (map (λ (t : Tracepoint). t.point)) (whole ∙ c.as_slice-tracepoint-items.ensures)
     ∙ sym (points_of-trees c.args.script.now.tracepoints) in
     record {
       few = rw same (few c.args.script.now);
