@@ -25,7 +25,8 @@ number is_negative magnitude = record { is_negative = is_negative; magnitude = m
 -- decimal digits, with `-` before or not, or hexadecimal ones behind `0x`
 unfoldable pub number_of : List ℕ → Option Number
 number_of bs =
-    if slice_index bs 0 == 48 && slice_index bs 1 == 120 then option_map (number false) (magnitude 16 (drop 2 bs))
+    if slice_index bs 0 == 48 && slice_index bs 1 == 120
+    then option_map (number false) (magnitude 16 (drop 2 bs))
     else if slice_index bs 0 == 45 then option_map (number true) (magnitude 10 (drop 1 bs))
     else option_map (number false) (magnitude 10 bs)
 

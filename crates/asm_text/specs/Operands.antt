@@ -12,7 +12,8 @@ use Rattle.asm_text.specs.Numbers.{number_of, is_within}
 use Rattle.asm_text.specs.Names.{register_named}
 
 -- a value goes on to what is made of it, and a cause stays
-abbrev pub and_then : {A B : Type 0} → Result A AsmCause → (A → Result B AsmCause) → Result B AsmCause
+abbrev pub and_then : {A B : Type 0}
+    → Result A AsmCause → (A → Result B AsmCause) → Result B AsmCause
 and_then (Ok x) next = next x
 and_then (Err cause) next = Err cause
 
@@ -91,7 +92,9 @@ two_registers text =
 abbrev pub three_registers : List ℕ → Result (ℕ × ℕ × ℕ) AsmCause
 three_registers text =
     and_then (three (pieces text)) (λ p.
-    and_then (register p.0) (λ a. and_then (register p.1) (λ b. and_then (register p.2) (λ c. Ok (a, b, c)))))
+    and_then (register p.0) (λ a.
+    and_then (register p.1) (λ b.
+    and_then (register p.2) (λ c. Ok (a, b, c)))))
 
 abbrev pub register_and_number : List ℕ → Result (ℕ × Number) AsmCause
 register_and_number text =
@@ -101,7 +104,9 @@ register_and_number text =
 abbrev pub registers_and_number : List ℕ → Result (ℕ × ℕ × Number) AsmCause
 registers_and_number text =
     and_then (three (pieces text)) (λ p.
-    and_then (register p.0) (λ a. and_then (register p.1) (λ b. and_then (number p.2) (λ n. Ok (a, b, n)))))
+    and_then (register p.0) (λ a.
+    and_then (register p.1) (λ b.
+    and_then (number p.2) (λ n. Ok (a, b, n)))))
 
 abbrev pub register_and_address : List ℕ → Result (ℕ × Number × ℕ) AsmCause
 register_and_address text =
@@ -116,7 +121,9 @@ register_and_target text =
 abbrev pub registers_and_target : List ℕ → Result (ℕ × ℕ × Target) AsmCause
 registers_and_target text =
     and_then (three (pieces text)) (λ p.
-    and_then (register p.0) (λ a. and_then (register p.1) (λ b. and_then (target p.2) (λ to. Ok (a, b, to)))))
+    and_then (register p.0) (λ a.
+    and_then (register p.1) (λ b.
+    and_then (target p.2) (λ to. Ok (a, b, to)))))
 
 abbrev pub register_and_label : List ℕ → Result (ℕ × Target) AsmCause
 register_and_label text =

@@ -55,7 +55,8 @@ immediate_statement op text =
 unfoldable pub shift_statement : ShiftOp → List ℕ → Result Statement AsmCause
 shift_statement op text =
     and_then (registers_and_number text) (λ r.
-    and_then (ranged 0 31 r.2) (λ amount. Ok (statement.One (instr.Shift op r.0 r.1 (amount % 2 ^ 5)))))
+    and_then (ranged 0 31 r.2)
+    (λ amount. Ok (statement.One (instr.Shift op r.0 r.1 (amount % 2 ^ 5)))))
 
 unfoldable pub load_statement : LoadOp → List ℕ → Result Statement AsmCause
 load_statement op text =
@@ -76,12 +77,14 @@ jalr_statement text =
 unfoldable pub lui_statement : List ℕ → Result Statement AsmCause
 lui_statement text =
     and_then (register_and_number text) (λ r.
-    and_then (ranged 0 (2 ^ 20 - 1) r.1) (λ upper. Ok (statement.One (instr.Lui r.0 (upper % 2 ^ 20)))))
+    and_then (ranged 0 (2 ^ 20 - 1) r.1)
+    (λ upper. Ok (statement.One (instr.Lui r.0 (upper % 2 ^ 20)))))
 
 unfoldable pub auipc_statement : List ℕ → Result Statement AsmCause
 auipc_statement text =
     and_then (register_and_number text) (λ r.
-    and_then (ranged 0 (2 ^ 20 - 1) r.1) (λ upper. Ok (statement.One (instr.Auipc r.0 (upper % 2 ^ 20)))))
+    and_then (ranged 0 (2 ^ 20 - 1) r.1)
+    (λ upper. Ok (statement.One (instr.Auipc r.0 (upper % 2 ^ 20)))))
 
 unfoldable pub branch_statement : BranchOp → List ℕ → Result Statement AsmCause
 branch_statement op text =
@@ -178,7 +181,8 @@ one_number text = and_then (one (pieces text)) number
 
 unfoldable pub space_statement : List ℕ → Result Statement AsmCause
 space_statement text =
-    and_then (one_number text) (λ n. and_then (ranged 0 (2 ^ 32 - 1) n) (λ size. Ok (statement.Space size)))
+    and_then (one_number text) (λ n.
+    and_then (ranged 0 (2 ^ 32 - 1) n) (λ size. Ok (statement.Space size)))
 
 abbrev pub aligned_to : ℕ → Result Statement AsmCause
 aligned_to n =
@@ -194,7 +198,8 @@ align_statement text = and_then (one_number text) (λ n. and_then (ranged 0 16 n
 
 unfoldable pub global_statement : List ℕ → Result Statement AsmCause
 global_statement text =
-    and_then (one (pieces text)) (λ piece. if is_name piece then Ok statement.Nothing else Err Operand)
+    and_then (one (pieces text))
+    (λ piece. if is_name piece then Ok statement.Nothing else Err Operand)
 
 -- ---- the whole
 

@@ -8,7 +8,8 @@ pub enum AsmCause {
     /// A name is that of no instruction and of no directive.
     #[error("Mnemonic")]
     Mnemonic,
-    /// The operands have another number or another form than their place wants, or a byte fits nothing.
+    /// The operands have another number or another form than their place wants, or a byte fits
+    /// nothing.
     #[error("Operand")]
     Operand,
     /// A number or an offset is none that its place takes.

@@ -1,5 +1,5 @@
-//! The text of assembly sources: the parts of a line, the names, numbers and operands in them, and what a line says but
-//! for what depends on its labels.
+//! The text of assembly sources: the parts of a line, the names, numbers and operands in them, and
+//! what a line says but for what depends on its labels.
 #![tactic(auto)]
 
 mod bytes;

@@ -34,7 +34,8 @@ fn magnitude(base: u32, digits: &[u8]) -> Option<u64>
     Some(value)
 }
 
-/// The number that an operand is: decimal digits, with `-` before or not, or hexadecimal ones behind `0x`.
+/// The number that an operand is: decimal digits, with `-` before or not, or hexadecimal ones
+/// behind `0x`.
 #[tactic(auto, unfolding(crate::specs::Numbers::number_of))]
 pub fn number_of(operand: &[u8]) -> Option<Number>
     ensures value { result ≡ number_of operand.now }

@@ -42,7 +42,8 @@ data_segments address (b ∷ bs) = segment address (b ∷ bs) ∷ []
 
 -- a label as a symbol
 abbrev pub symbol_of : ℕ → Label → Symbol
-symbol_of data_at label = record { name = label.name; value = address_of data_at label.spot % 2 ^ 32 }
+symbol_of data_at label =
+    record { name = label.name; value = address_of data_at label.spot % 2 ^ 32 }
 
 -- text, then data; the entry is the label `_start`, or else the start of text
 abbrev pub image_from : Table → List ℕ → List ℕ → Image
@@ -71,4 +72,5 @@ of_lines lines = unless (first_fault (table_of lines) start 1 lines) (image_of l
 -- the image of a source, or its first fault
 unfoldable pub assembly : List ℕ → Result Image AsmFault
 assembly source =
-    if nat_lt most_source (length source) then Err (fault 0 cause.TooLarge) else of_lines (lines source)
+    if nat_lt most_source (length source) then Err (fault 0 cause.TooLarge)
+    else of_lines (lines source)

@@ -18,7 +18,8 @@ i_format opcode funct3 rd rs1 imm =
 -- imm[4:0], and imm[11:5]
 unfoldable pub s_format : ℕ → ℕ → ℕ → ℕ → ℕ → ℕ
 s_format opcode funct3 rs1 rs2 imm =
-    opcode + 2 ^ 7 * (imm % 2 ^ 5) + 2 ^ 12 * funct3 + 2 ^ 15 * rs1 + 2 ^ 20 * rs2 + 2 ^ 25 * (imm / 2 ^ 5)
+    opcode + 2 ^ 7 * (imm % 2 ^ 5) + 2 ^ 12 * funct3 + 2 ^ 15 * rs1 + 2 ^ 20 * rs2
+    + 2 ^ 25 * (imm / 2 ^ 5)
 
 -- imm[11], imm[4:1], imm[10:5] and imm[12], of half the offset
 unfoldable pub b_format : ℕ → ℕ → ℕ → ℕ → ℕ → ℕ
@@ -42,13 +43,15 @@ word_for (Lui rd imm) = u_format opcodes.LUI rd imm
 word_for (Auipc rd imm) = u_format opcodes.AUIPC rd imm
 word_for (Jal rd half_offset) = j_format opcodes.JAL rd half_offset
 word_for (Jalr rd rs1 offset) = i_format opcodes.JALR 0b000 rd rs1 offset
-word_for (Branch op rs1 rs2 half_offset) = b_format opcodes.BRANCH (branch_funct3 op) rs1 rs2 half_offset
+word_for (Branch op rs1 rs2 half_offset) =
+    b_format opcodes.BRANCH (branch_funct3 op) rs1 rs2 half_offset
 word_for (Load op rd rs1 offset) = i_format opcodes.LOAD (load_funct3 op) rd rs1 offset
 word_for (Store op rs1 rs2 offset) = s_format opcodes.STORE (store_funct3 op) rs1 rs2 offset
 word_for (OpImm op rd rs1 imm) = i_format opcodes.OP_IMM (immediate_funct3 op) rd rs1 imm
 word_for (Shift op rd rs1 amount) =
     r_format opcodes.OP_IMM (shift_funct3 op) (shift_funct7 op) rd rs1 amount
-word_for (Op op rd rs1 rs2) = r_format opcodes.OP (register_funct3 op) (register_funct7 op) rd rs1 rs2
+word_for (Op op rd rs1 rs2) =
+    r_format opcodes.OP (register_funct3 op) (register_funct7 op) rd rs1 rs2
 word_for (MulDiv op rd rs1 rs2) = r_format opcodes.OP (mul_div_funct3 op) opcodes.MULDIV rd rs1 rs2
 word_for (Fence high rd) = opcodes.MISC_MEM + 2 ^ 7 * rd + 2 ^ 15 * high
 word_for Ecall = opcodes.ECALL

@@ -1,4 +1,5 @@
--- Labels: a label's value is the start of its section and the sizes of the lines before it in that section.
+-- Labels: a label's value is the start of its section and the sizes of the lines before it in that
+-- section.
 use Rattle.std.specs.Prelude.{◌≡◌, ℕ, ◌+◌, ◌^◌, ◌<◌, Bool, List, [], ◌∷◌, ◌++◌, map, find, Option, Some, None, bytes_eq, if◌then◌else◌}
 use Rattle.std.specs.List.{list_any, AllByRecursion}
 use Rattle.std.specs.Option.{option_map, option_or}
@@ -22,7 +23,8 @@ label_at place number name = record { name = name; spot = spot_of place; line = 
 abbrev pub labels_in : Place → ℕ → List (List ℕ) → List Label
 labels_in place number [] = []
 labels_in place number (line ∷ lines) =
-    map (label_at place number) (labels_of line) ++ labels_in (place_after place line) (number + 1) lines
+    map (label_at place number) (labels_of line)
+    ++ labels_in (place_after place line) (number + 1) lines
 
 abbrev pub is_named : List ℕ → Label → Bool
 is_named name label = bytes_eq label.name name
@@ -65,7 +67,8 @@ IsIndex spots labels =
 abbrev pub IsNear : Label → Type 0
 IsNear label = label.spot.offset < 2 ^ 62
 
-pub record AreKept (spots : BTreeMap (Bor (List ℕ)) Spot) (doubled : Option ℕ) (labels : List Label) : Type 0 where
+pub record AreKept
+    (spots : BTreeMap (Bor (List ℕ)) Spot) (doubled : Option ℕ) (labels : List Label) : Type 0 where
   pub index : IsIndex spots labels
   pub first : doubled ≡ doubled_line labels
   pub near : AllByRecursion IsNear labels

@@ -1,4 +1,5 @@
--- The causes of a line that depend on labels, on its place and on what stands before it, and its least cause.
+-- The causes of a line that depend on labels, on its place and on what stands before it, and its
+-- least cause.
 use Rattle.std.specs.Prelude.{ℕ, ◌+◌, ◌-◌, ◌%◌, ◌^◌, ◌==◌, ◌&&◌, ◌||◌, not, nat_lt, nat_le, is_none, Bool, false, true, List, [], ◌∷◌, Option, Some, None, Result, Ok, Err, if◌then◌else◌}
 use Rattle.std.specs.List.{list_any}
 use Rattle.std.specs.Option.{option_map, option_or}
@@ -97,13 +98,15 @@ statement_cause table place line text said =
     (option_or (section_cause place said) (size_cause (after_statement place text said))))
 
 -- the least cause of a line
-unfoldable pub reading_cause : Table → Place → ℕ → List ℕ → Result Statement AsmCause → Option AsmCause
+unfoldable pub reading_cause :
+    Table → Place → ℕ → List ℕ → Result Statement AsmCause → Option AsmCause
 reading_cause table place line text (Ok said) = statement_cause table place line text said
 reading_cause table place line text (Err cause) = Some cause
 
 unfoldable pub line_cause : Table → Place → ℕ → List ℕ → Option AsmCause
 line_cause table place line bytes =
-    reading_cause table place line (operand_text (statement_text bytes)) (statement_of (statement_text bytes))
+    reading_cause table place line
+    (operand_text (statement_text bytes)) (statement_of (statement_text bytes))
 
 abbrev pub told : ℕ → Option AsmCause → Option AsmFault → Option AsmFault
 told line (Some cause) later = Some (record { line = line; cause = cause })
@@ -113,4 +116,5 @@ told line None later = later
 abbrev pub first_fault : Table → Place → ℕ → List (List ℕ) → Option AsmFault
 first_fault table place line [] = None
 first_fault table place line (bytes ∷ more) =
-    told line (line_cause table place line bytes) (first_fault table (place_after place bytes) (line + 1) more)
+    told line (line_cause table place line bytes)
+    (first_fault table (place_after place bytes) (line + 1) more)

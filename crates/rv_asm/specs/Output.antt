@@ -78,7 +78,8 @@ reading_bytes table place text (Err cause) = []
 
 unfoldable pub line_bytes : Table → Place → List ℕ → List ℕ
 line_bytes table place line =
-    reading_bytes table place (operand_text (statement_text line)) (statement_of (statement_text line))
+    reading_bytes table place
+    (operand_text (statement_text line)) (statement_of (statement_text line))
 
 -- the bytes of one section that are among those of another
 abbrev pub of_section : Section → Section → List ℕ → List ℕ
@@ -91,4 +92,5 @@ of_section Data Text bytes = []
 abbrev pub bytes_in : Section → Table → Place → List (List ℕ) → List ℕ
 bytes_in section table place [] = []
 bytes_in section table place (line ∷ lines) =
-    of_section section place.section (line_bytes table place line) ++ bytes_in section table (place_after place line) lines
+    of_section section place.section (line_bytes table place line)
+    ++ bytes_in section table (place_after place line) lines

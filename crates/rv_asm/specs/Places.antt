@@ -88,7 +88,8 @@ size_at at text (statement.Align alignment) = padding_size alignment at
 
 -- a misplaced statement adds none
 unfoldable pub size_in : Place → List ℕ → Statement → ℕ
-size_in place text said = if is_misplaced place.section said then 0 else size_at (offset place) text said
+size_in place text said =
+    if is_misplaced place.section said then 0 else size_at (offset place) text said
 
 -- ---- places
 
@@ -101,7 +102,8 @@ entered (statement.Enter section) place = record place { section = section }
 entered other place = place
 
 unfoldable pub after_statement : Place → List ℕ → Statement → Place
-after_statement place text said = entered said (moved_in place.section place (size_in place text said))
+after_statement place text said =
+    entered said (moved_in place.section place (size_in place text said))
 
 -- a line that says nothing that can be read adds no bytes
 unfoldable pub after_reading : Place → List ℕ → Result Statement AsmCause → Place

@@ -16,7 +16,8 @@ fn without_carriage_return(line: &[u8]) -> &[u8]
     }
 }
 
-/// The first line, and what stands behind its end. A CR before its LF is dropped, and the last LF may be missing.
+/// The first line, and what stands behind its end. A CR before its LF is dropped, and the last LF
+/// may be missing.
 pub fn first_line(source: &[u8]) -> (&[u8], &[u8])
     requires { 0 < length source.now }
     ensures lines { lines source.now ≡ result.0.now ∷ lines result.1.now }

@@ -24,7 +24,8 @@ fn add_labels<'a>(
     line: &'a [u8],
 ) -> Result<(), AllocError>
     requires { offset place < 2 ^ 62 }
-    ensures { OnOk result (labels.new ≡ labels.old ++ map (label_at place number) (labels_of line.now)) }
+    ensures { OnOk result
+        (labels.new ≡ labels.old ++ map (label_at place number) (labels_of line.now)) }
 {
     let spot = spot_of(place);
     let mut code = code_of(line);

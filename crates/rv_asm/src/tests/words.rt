@@ -1,5 +1,5 @@
-//! Sources and their words. Those of one instruction are as LLVM's `llvm-mc` gives them, but that `li` of a word whose
-//! lower part is 0 has its second instruction here.
+//! Sources and their words. Those of one instruction are as LLVM's `llvm-mc` gives them, but that
+//! `li` of a word whose lower part is 0 has its second instruction here.
 
 use super::check_words;
 use std::test::Fail;
