@@ -15,7 +15,8 @@ not_zero : (n : ℕ) → n ≢ 0 → (n == 0) ≡ false
 not_zero n some = grind (arith, nat_tests)
 
 -- as many calls are open as may be
-pub too_deep : (s : State) (functions : List FunctionTree) (left f : ℕ) (values : List ℕ) (now : Now)
+pub too_deep : (s : State) (functions : List FunctionTree) (left f : ℕ) (values : List ℕ)
+    (now : Now)
     → left ≡ 0 → entering s functions left f values now ≡ Ended TooDeep now
 unfolding entering
 too_deep s functions left f values now none = rw none refl
@@ -78,3 +79,5 @@ pub length-opening : (locals : ℕ) (values : List ℕ) → length values ≤ lo
     → length (opening_locals locals values) ≡ locals
 length-opening locals values few =
     rw (length-append values, length-replicate) (omega arith)
+
+pub ruleset enter_laws = (too_deep, over_budget)

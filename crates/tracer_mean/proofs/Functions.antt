@@ -42,7 +42,8 @@ is_function s i f limits within e =
     limits.functions i no_function inside in
     record {
       named = named;
-      counted = get_or-map (λ (g : FunctionTree). g.parameters) tree.functions i no_function 0 inside
+      counted =
+          get_or-map (λ (g : FunctionTree). g.parameters) tree.functions i no_function 0 inside
           ∙ rw named refl;
       fits = rw named at fits;
       nodes = omega (arith, few, limits.few_nodes);

@@ -21,3 +21,5 @@ halts_as whole o Memory now same is = tt
 pub passed_from : (whole o : Outcome) (follow : ℕ → Now → Outcome) (h : Halt) (now : Now)
     → whole ≡ then_do o follow → HaltsAt o h now → HaltsAt whole h now
 passed_from whole o follow h now same is = halts_as whole _ h now same (passed_on o follow h now is)
+
+pub ruleset halt_laws = (passed_from, halts_as)

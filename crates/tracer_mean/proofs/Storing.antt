@@ -39,7 +39,8 @@ pub too_many : (op : StoreOp) (address value : ℕ) (now : Now)
     → most_stores ≤ now.stores
     → store_meaning op address value now ≡ Ended TooManyStores now
 unfolding store_at
-too_many op address value now e f = rw (some_of _ _ now.pages e) (many address now _ (not_below _ f))
+too_many op address value now e f =
+    rw (some_of _ _ now.pages e) (many address now _ (not_below _ f))
 
 few : (address : ℕ) (now : Now) (pages : Pages) → nat_lt now.stores most_stores ≡ true
     → stored address now (Some pages)

@@ -84,7 +84,8 @@ pub turns_halt_in : (condition body : Now → Outcome) (whole : Outcome) (n c : 
     → condition now ≡ Goes c after → after.units ≤ now.units → c ≢ 0 → after.units ≢ 0
     → HaltsAt (body turned) h done → turned ≡ record after { units = after.units - 1 }
     → HaltsAt whole h done
-turns_halt_in condition body whole n c h now after turned done same enough e kept some units is less =
+turns_halt_in condition body whole n c h now after turned done same enough e kept some units is
+    less =
     let within : after.units ≤ n = omega arith in
     passed_from whole (body turned) _ h done
     (turns_on condition body whole n c now after turned same e some units within less) is
@@ -99,3 +100,5 @@ pub turns_more : (condition body : Now → Outcome) (whole : Outcome) (n c : ℕ
 turns_more condition body whole n c now after turned done same enough e kept some units is less =
     let within : after.units ≤ n = omega arith in
     turns_on condition body whole n c now after turned same e some units within less ∙ rw is refl
+
+pub ruleset turn_laws = (turns_end, turns_halt, turns_over)

@@ -2,6 +2,7 @@
 #![tactic(auto)]
 
 mod copying;
+mod laws;
 mod progress;
 mod running;
 #[cfg(test)]
@@ -9,4 +10,5 @@ mod tests;
 mod tracer;
 
 pub use copying::copy_of;
+pub use laws::records_stand_apart;
 pub use running::run_on_copy;

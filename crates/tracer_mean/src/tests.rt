@@ -12,7 +12,7 @@ use sl_model::{BranchOp, Bus, Layout, LoadOp, RegisterOp, RunState, StoreOp};
 use std::alloc::{AllocError, Global};
 use std::test::Fail;
 use tracer_lang::{
-    Args, Block, Expr, Function, Operator, Point, Record, Script, Stmt, TracerEnd, Tracepoint,
+    Args, Block, Expr, Function, Operator, Point, Record, Script, Stmt, Tracepoint, TracerEnd,
 };
 
 /// A machine at 0x10014 with the page at 0x11000, in which 8 stands at 0x11004.
@@ -317,7 +317,11 @@ fn ends_early(rt: HostRuntime) -> Result<(), Fail> {
     assert!(rt; left.words.is_empty());
     assert!(rt; left.outcome == TracerEnd::User(9));
     let body = only(alloc, Stmt::Emit(Expr::Number(2)))?;
-    let left = left_by(alloc, 1, before(alloc, Stmt::Return(Expr::Number(9)), body)?)?;
+    let left = left_by(
+        alloc,
+        1,
+        before(alloc, Stmt::Return(Expr::Number(9)), body)?,
+    )?;
     assert!(rt; left.words.is_empty());
     assert!(rt; left.outcome == TracerEnd::Done);
     Ok(())

@@ -76,7 +76,7 @@ impl Tracer<'_> {
 
     /// What a function gives for some arguments.
     #[cycle(tree)]
-    #[tactic(auto, using(crate::proofs::Halting::passed_from, crate::proofs::Halting::halts_as), unfolding(tracer_lang::specs::Meaning::arguments_meaning))]
+    #[tactic(auto, using(crate::proofs::Halting::halt_laws), unfolding(tracer_lang::specs::Meaning::arguments_meaning))]
     fn call(
         &self,
         alloc: Global,
@@ -112,7 +112,7 @@ impl Tracer<'_> {
 
     /// What a function gives for the values of its parameters.
     #[cycle(tree)]
-    #[tactic(auto, using(crate::proofs::Entering::too_deep, crate::proofs::Entering::over_budget))]
+    #[tactic(auto, using(crate::proofs::Entering::enter_laws))]
     fn enter(
         &self,
         alloc: Global,
@@ -207,7 +207,7 @@ impl Tracer<'_> {
 
     /// Does statements as long as a condition is not 0.
     #[cycle(tree)]
-    #[tactic(auto, using(crate::proofs::Turning::turns_end, crate::proofs::Turning::turns_halt, crate::proofs::Turning::turns_over, crate::proofs::Turning::turns_halt_in))]
+    #[tactic(auto, using(crate::proofs::Turning::turn_laws))]
     fn turns(
         &self,
         alloc: Global,

@@ -34,8 +34,10 @@ returns c =
       | in-Err-Ended w ↦
           let r = recorded (tree_of c.args.script.now) c.args.point
           (state_of c.args.m c.args.f.pages) (tracepoint_of c.index-as_slice-point.result)
-          c.resize.new.self.items c.new.result (ended w.in-Err-Ended.end (now_of c.statements.new.p))
-          t.named items c.new.ensures (rw (w.in-Err-Ended.field-0-is) at (w.in-Err-Ended.ensures.halt)) in
+          c.resize.new.self.items c.new.result
+          (ended w.in-Err-Ended.end (now_of c.statements.new.p))
+          t.named items c.new.ensures
+          (rw (w.in-Err-Ended.field-0-is) at (w.in-Err-Ended.ensures.halt)) in
           rw (w.outcome-is) r
       | in-Ok w ↦
           let r = recorded (tree_of c.args.script.now) c.args.point

@@ -64,8 +64,11 @@ turns-returns-clause-done t c =
 
 inside : (x : Script) (i : ℕ) → i < length (parameter_counts (tree_of x)) → i < length x.functions
 inside x i within =
-    omega (arith, length-map (tree_of x).functions (λ (f : FunctionTree). f.parameters),
-    length-map x.functions function_of)
+    omega (
+      arith,
+      length-map (tree_of x).functions (λ (f : FunctionTree). f.parameters),
+      length-map x.functions function_of,
+    )
 
 pub enter-statements-requires : goal.enter-statements-requires
 enter-statements-requires t c =
@@ -111,7 +114,8 @@ enter-returns-clause-value t c =
     (rw (c.replace-caller.ensures.after) c.in_ok-resize.ensures.items) in
     elim c.match-statements.branch [
       | enter-in-Ok w ↦
-          let last : Goes 0 (record (now_of c.statements.new.p) { locals = c.args.p.now.locals.items })
+          let last : Goes 0
+          (record (now_of c.statements.new.p) { locals = c.args.p.now.locals.items })
           ≡ Goes c.match-statements.value
           (record (now_of c.statements.new.p) { locals = c.replace-caller.result.items }) =
           rw (w.value-is, c.replace-caller.ensures.value) refl in
