@@ -1,8 +1,8 @@
 //! Which tracepoints of a script fire before an instruction.
 #![tactic(auto)]
 
-mod fired;
 mod filter;
+mod fired;
 mod points;
 #[cfg(test)]
 mod tests;

@@ -68,8 +68,14 @@ fn fires(alloc: Global, point: Point) -> Result<bool, Memory>
 #[test]
 fn fires_where_it_stands(rt: HostRuntime) -> Result<(), Fail> {
     for (address, want) in [(0x10010, true), (0x1000c, false), (0x11010, false)] {
-        assert!(rt; fires(rt.alloc(), Point::Addr(address))? == want, "at {address}");
-        assert!(rt; fires(rt.alloc(), Point::Enter(address))? == want, "at {address}");
+        assert!(rt;
+            fires(rt.alloc(), Point::Addr(address))? == want,
+            "at {address}"
+        );
+        assert!(rt;
+            fires(rt.alloc(), Point::Enter(address))? == want,
+            "at {address}"
+        );
     }
     for (address, len, want) in [
         (0x11005, 1, true),

@@ -15,18 +15,22 @@ loop-index-preserved c =
     rw (c.as_slice.ensures, c.self.view_is, c.store_of-store.ensures) at c.fires_at.ensures in
     elim c.if-fires_at.branch [
       | then-fires_at w ↦ (
-          w.out-is ∙ w.push.ensures
-          ∙ ap (λ xs. xs ++ c.loop-index.index ∷ []) c.loop-index.invariant.0
-          ∙ sym (firing_more c.args.self.now s c.loop-index.index true
-          (sym h ∙ w.if-fires_at.true)),
-          omega (arith, ap length (w.out-is ∙ w.push.ensures),
-          length-append c.loop-index.out (c.loop-index.index ∷ []), c.loop-index.invariant.1),
-        )
+        w.out-is ∙ w.push.ensures
+            ∙ ap (λ xs. xs ++ c.loop-index.index ∷ []) c.loop-index.invariant.0
+            ∙ sym (firing_more c.args.self.now s c.loop-index.index true
+            (sym h ∙ w.if-fires_at.true)),
+        omega (
+          arith,
+          ap length (w.out-is ∙ w.push.ensures),
+          length-append c.loop-index.out (c.loop-index.index ∷ []),
+          c.loop-index.invariant.1,
+        ),
+      )
       | else-fires_at w ↦ (
-          w.out-is ∙ c.loop-index.invariant.0
-          ∙ sym (firing_more c.args.self.now s c.loop-index.index false
-          (sym h ∙ w.if-fires_at.false)
-          ∙ append-nil _),
-          omega (arith, ap length w.out-is, c.loop-index.invariant.1),
-        )
+        w.out-is ∙ c.loop-index.invariant.0
+            ∙ sym (firing_more c.args.self.now s c.loop-index.index false
+            (sym h ∙ w.if-fires_at.false)
+            ∙ append-nil _),
+        omega (arith, ap length w.out-is, c.loop-index.invariant.1),
+      )
     ]

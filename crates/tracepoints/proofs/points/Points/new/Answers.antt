@@ -14,8 +14,11 @@ use Rattle.tracepoints.proofs.points.Points.new.Goals as goal
 
 few : (s : Script) → length (points_of (tree_of s)) ≤ 64
 few s =
-    omega (arith, s.limits.few_tracepoints,
-    length-map (tree_of s).tracepoints (λ (t : TracepointTree). t.point))
+    omega (
+      arith,
+      s.limits.few_tracepoints,
+      length-map (tree_of s).tracepoints (λ (t : TracepointTree). t.point),
+    )
 
 fit : (s : Script) → All FitsPoint (points_of (tree_of s))
 fit s =
