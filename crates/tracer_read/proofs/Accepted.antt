@@ -103,12 +103,12 @@ other place nodes depth b token standing no_close no_open few low none rest =
     let room : nodes ≢ 4096 = other_than nodes 4096 (sym (ap (λ c. not c && nodes == 4096) no_close) ∙ full) in
     let nodes_is : nodes_after b nodes ≡ nodes + 1 = ap (λ c. cond c nodes (nodes + 1)) no_close in
     let depth_is : depth_after b depth ≡ depth =
-        ap (λ c. cond c (depth + 1) (cond (b == 41) (depth - 1) depth)) no_open ∙ ap (λ c. cond c (depth - 1) depth) no_close in
+    ap (λ c. cond c (depth + 1) (cond (b == 41) (depth - 1) depth)) no_open ∙ ap (λ c. cond c (depth - 1) depth) no_close in
     let behind = rest (omega (arith, nodes_is)) (omega (arith, depth_is)) in
     let made : Standing = record standing { inside = tree (atom token) standing.inside } in
     let made_is : before b token standing ≡ made =
-        ap (λ c. cond c (record { inside = no_trees; outside = standing.inside ∷ standing.outside }) (cond (b == 40) (opened token standing) made)) no_close
-        ∙ ap (λ c. cond c (opened token standing) made) no_open in
+    ap (λ c. cond c (record { inside = no_trees; outside = standing.inside ∷ standing.outside }) (cond (b == 40) (opened token standing) made)) no_close
+    ∙ ap (λ c. cond c (opened token standing) made) no_open in
     subst (Fine nodes depth) (sym made_is) (record {
       few = omega (arith, behind.few, nodes_is);
       inside = omega (arith, behind.inside, depth_is);
@@ -119,14 +119,14 @@ one_token : (place nodes depth b : ℕ) (token : Token) (standing : Standing) �
 one_token place nodes depth b token standing few low =
     ⊎_elim
     (λ (close : ((b == 41) ≡ true) × (b ≡ 41)).
-      subst (λ b. Grows place nodes depth b token standing) (sym close.1) (closing place nodes depth token standing few low))
+    subst (λ b. Grows place nodes depth b token standing) (sym close.1) (closing place nodes depth token standing few low))
     (λ (no_close : ((b == 41) ≡ false) × (b ≢ 41)).
-      ⊎_elim
-      (λ (open_list : ((b == 40) ≡ true) × (b ≡ 40)).
-        subst (λ b. Grows place nodes depth b token standing) (sym open_list.1) (opening place nodes depth token standing few low))
-      (λ (no_open : ((b == 40) ≡ false) × (b ≢ 40)).
-        other place nodes depth b token standing no_close.0 no_open.0 few low)
-      (eqb_tells b 40))
+    ⊎_elim
+    (λ (open_list : ((b == 40) ≡ true) × (b ≡ 40)).
+    subst (λ b. Grows place nodes depth b token standing) (sym open_list.1) (opening place nodes depth token standing few low))
+    (λ (no_open : ((b == 40) ≡ false) × (b ≢ 40)).
+    other place nodes depth b token standing no_close.0 no_open.0 few low)
+    (eqb_tells b 40))
     (eqb_tells b 41)
 
 accepted : (text : List ℕ) (nodes depth : ℕ) (tokens : List Token) → nodes ≤ 4096 → depth ≤ 64
@@ -165,7 +165,7 @@ first_pass-small text tokens is =
     let whole : part ≡ text = take_all 65537 text (omega (arith, short, length-take 65537 text)) in
     let fine : Fine 0 0 (nodes_from part (tokens_of part)) = accepted part 0 0 (tokens_of part) (omega arith) (omega arith) passed.0 in
     let same : nodes_from part (tokens_of part) ≡ nodes_from text tokens =
-        ap (nodes_from part) passed.1 ∙ ap (λ t. nodes_from t tokens) whole in
+    ap (nodes_from part) passed.1 ∙ ap (λ t. nodes_from t tokens) whole in
     let text_fine : Fine 0 0 (nodes_from text tokens) = subst (Fine 0 0) same fine in
     record { few = omega (arith, text_fine.few); shallow = omega (arith, text_fine.inside) }
 

@@ -25,7 +25,7 @@ pub called_unknown : (around : Around) (place : ℕ) (f : Tree) (arguments : Tre
 called_unknown around place f arguments token is none =
     from_word around place f arguments token is
     ∙ ap (λ o. or_fault token.place causes.NameUnknown o >>= λ index.
-      unless (not (part_count arguments == slice_index (parameter_counts around.callees) index)) place causes.Arity (Ok index)) none
+    unless (not (part_count arguments == slice_index (parameter_counts around.callees) index)) place causes.Arity (Ok index)) none
 
 pub called_known : (around : Around) (place : ℕ) (f : Tree) (arguments : Trees) (token : Token) (index parameters : ℕ)
     → word_of around.text f ≡ Ok token
@@ -35,5 +35,5 @@ pub called_known : (around : Around) (place : ℕ) (f : Tree) (arguments : Trees
 called_known around place f arguments token index parameters is some counts =
     from_word around place f arguments token is
     ∙ ap (λ o. or_fault token.place causes.NameUnknown o >>= λ index.
-      unless (not (part_count arguments == slice_index (parameter_counts around.callees) index)) place causes.Arity (Ok index)) some
+    unless (not (part_count arguments == slice_index (parameter_counts around.callees) index)) place causes.Arity (Ok index)) some
     ∙ ap (λ n. unless (not (part_count arguments == n)) place causes.Arity (Ok index)) counts

@@ -27,11 +27,11 @@ pub callee_index : (text name : List ℕ) (token : Token) (fs : List Signature) 
     ≡ position (λ (f : Signature). bytes_eq (spelling text f.name) name) fs
 callee_index text name token fs is =
     let P : List ℕ → Type 0 = λ name. name_index text (callee_names (map callee_of fs)) token
-        ≡ position (λ (f : Signature). bytes_eq (spelling text f.name) name) fs in
+    ≡ position (λ (f : Signature). bytes_eq (spelling text f.name) name) fs in
     let is_named = λ (x : Token). bytes_eq (spelling text x) (spelling text token) in
     subst P (sym is) (
-      position-map is_named (λ (callee : Callee). callee.name) (map callee_of fs)
-      ∙ position-map (λ (callee : Callee). is_named callee.name) callee_of fs
+    position-map is_named (λ (callee : Callee). callee.name) (map callee_of fs)
+    ∙ position-map (λ (callee : Callee). is_named callee.name) callee_of fs
     )
 
 -- the number of its parameters

@@ -46,8 +46,8 @@ number_value-small word =
     (cond (starts_with nat_eq word (codes "-")) (negative_value (drop 1 word)) (decimal_value word)) IsWord
     (λ _. hex_value-small (drop 2 word))
     (IfSome-cond (starts_with nat_eq word (codes "-")) (negative_value (drop 1 word)) (decimal_value word) IsWord
-      (λ _. where_negative-small (digits_value 10 10 (drop 1 word)))
-      (where_word-small (digits_value 10 10 word)))
+    (λ _. where_negative-small (digits_value 10 10 (drop 1 word)))
+    (where_word-small (digits_value 10 10 word)))
 
 pub position-below : {X : Type 0} (p : X → Bool) (xs : List X) → IfSome (position p xs) (λ i. i < length xs)
 position-below p xs =

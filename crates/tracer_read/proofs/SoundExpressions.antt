@@ -35,14 +35,14 @@ pub number_within-within : (least most : ℕ) (text : List ℕ) (t : Tree)
     → IfOk (number_within least most text t) (λ n. (least ≤ n) × (n ≤ most))
 number_within-within least most text t =
     IfOk-then (number_of text t) _ (λ n. (least ≤ n) × (n ≤ most)) (λ n _.
-      IfOk-cond (leb least n && leb n most) (Ok n) (Err (fault (place_of t) causes.Number)) (λ n. (least ≤ n) × (n ≤ most))
-      (λ is. (leb-true least n (both_true (leb least n) (leb n most) is).0, leb-true n most (both_true (leb least n) (leb n most) is).1)) tt)
+    IfOk-cond (leb least n && leb n most) (Ok n) (Err (fault (place_of t) causes.Number)) (λ n. (least ≤ n) × (n ≤ most))
+    (λ is. (leb-true least n (both_true (leb least n) (leb n most) is).0, leb-true n most (both_true (leb least n) (leb n most) is).1)) tt)
 
 pub symbol_of-small : (text : List ℕ) (symbols : List Symbol) → AreWords symbols → (t : Tree)
     → IfOk (symbol_of text symbols t) (λ n. n < 2 ^ 32)
 symbol_of-small text symbols words t =
     IfOk-then (word_of text t) _ (λ n. n < 2 ^ 32) (λ token _.
-      IfOk-or_fault token.place causes.SymbolUnknown (symbol_value symbols (spelling text token)) (λ n. n < 2 ^ 32) (words (spelling text token)))
+    IfOk-or_fault token.place causes.SymbolUnknown (symbol_value symbols (spelling text token)) (λ n. n < 2 ^ 32) (words (spelling text token)))
 
 pub record Sound (counts : List ℕ) (locals nodes depth : ℕ) (e : Expression) : Type 0 where
   pub fits : FitsExpression counts locals e
@@ -73,10 +73,10 @@ called-callable around place f arguments =
     let same : length names ≡ length counts = length-map around.callees _ ∙ sym (length-map around.callees _) in
     let Q : ℕ → Type 0 = Callable counts (part_count arguments) in
     IfOk-then (word_of around.text f) _ Q (λ token _.
-      IfOk-bind (or_fault token.place causes.NameUnknown (name_index around.text names token)) _ (λ i. i < length names) Q
-      (IfOk-or_fault token.place causes.NameUnknown (name_index around.text names token) (λ i. i < length names) (position-below _ names))
-      (λ i below. IfOk-unless (not (part_count arguments == slice_index counts i)) place causes.Arity (Ok i) Q
-        (λ is. (omega (arith, below, same), eqb-true (part_count arguments) (slice_index counts i) (not_false (part_count arguments == slice_index counts i) is)))))
+    IfOk-bind (or_fault token.place causes.NameUnknown (name_index around.text names token)) _ (λ i. i < length names) Q
+    (IfOk-or_fault token.place causes.NameUnknown (name_index around.text names token) (λ i. i < length names) (position-below _ names))
+    (λ i below. IfOk-unless (not (part_count arguments == slice_index counts i)) place causes.Arity (Ok i) Q
+    (λ is. (omega (arith, below, same), eqb-true (part_count arguments) (slice_index counts i) (not_false (part_count arguments == slice_index counts i) is)))))
 
 value-sound : (around : Around) (locals : List Token) (token : Token)
     → IfOk (value around locals token) (Sound (parameter_counts around.callees) (length locals) 1 0)
@@ -85,10 +85,10 @@ value-sound around locals token =
     IfOk-cond (is_number (spelling around.text token)) (number_of around.text (atom token) >>= λ n. Ok (number n))
     (or_fault token.place causes.NameUnknown (name_index around.text locals token) >>= λ index. Ok (local index)) Q
     (λ _. IfOk-bind (number_of around.text (atom token)) _ (λ n. n < 2 ^ 32) Q (number_of-small around.text (atom token))
-      (λ n small. record { fits = small; few = omega arith; shallow = omega arith }))
+    (λ n small. record { fits = small; few = omega arith; shallow = omega arith }))
     (IfOk-bind (or_fault token.place causes.NameUnknown (name_index around.text locals token)) _ (λ i. i < length locals) Q
-      (IfOk-or_fault token.place causes.NameUnknown (name_index around.text locals token) (λ i. i < length locals) (position-below _ locals))
-      (λ i below. record { fits = below; few = omega arith; shallow = omega arith }))
+    (IfOk-or_fault token.place causes.NameUnknown (name_index around.text locals token) (λ i. i < length locals) (position-below _ locals))
+    (λ i below. record { fits = below; few = omega arith; shallow = omega arith }))
 
 pc-sound : (counts : List ℕ) (locals place nodes depth : ℕ) (parts : Trees)
     → IfOk (no_part place parts program_counter) (Sound counts locals (1 + nodes) (1 + depth))
@@ -100,16 +100,16 @@ register-sound : (around : Around) (locals place nodes depth : ℕ) (parts : Tre
 register-sound around locals place nodes depth parts =
     let Q : Expression → Type 0 = Sound (parameter_counts around.callees) locals (1 + nodes) (1 + depth) in
     IfOk-then (only_part place parts) _ Q (λ t _.
-      IfOk-bind (number_within 0 31 around.text t) _ (λ n. (0 ≤ n) × (n ≤ 31)) Q (number_within-within 0 31 around.text t)
-      (λ n within. record { fits = omega (arith, within.1); few = omega arith; shallow = omega arith }))
+    IfOk-bind (number_within 0 31 around.text t) _ (λ n. (0 ≤ n) × (n ≤ 31)) Q (number_within-within 0 31 around.text t)
+    (λ n within. record { fits = omega (arith, within.1); few = omega arith; shallow = omega arith }))
 
 symbol-sound : (around : Around) → AreWords around.symbols → (locals place nodes depth : ℕ) (parts : Trees)
     → IfOk (only_part place parts >>= λ t. symbol_of around.text around.symbols t >>= λ n. Ok (number n)) (Sound (parameter_counts around.callees) locals (1 + nodes) (1 + depth))
 symbol-sound around words locals place nodes depth parts =
     let Q : Expression → Type 0 = Sound (parameter_counts around.callees) locals (1 + nodes) (1 + depth) in
     IfOk-then (only_part place parts) _ Q (λ t _.
-      IfOk-bind (symbol_of around.text around.symbols t) _ (λ n. n < 2 ^ 32) Q (symbol_of-small around.text around.symbols words t)
-      (λ n small. record { fits = small; few = omega arith; shallow = omega arith }))
+    IfOk-bind (symbol_of around.text around.symbols t) _ (λ n. n < 2 ^ 32) Q (symbol_of-small around.text around.symbols words t)
+    (λ n small. record { fits = small; few = omega arith; shallow = omega arith }))
 
 -- the parts behind the first
 abbrev behind : Trees → Trees
@@ -130,12 +130,12 @@ call-sound around locals place (tree f arguments) alls =
     IfOk-bind (called around place (tree f arguments)) _ (Callable (parameter_counts around.callees) (part_count arguments)) (Sound (parameter_counts around.callees) (length locals) (1 + trees_nodes (tree f arguments)) (1 + trees_depth (tree f arguments)))
     (called-callable around place f arguments)
     (λ i callable. IfOk-bind (all (expressions around locals arguments)) _ (AreSound (parameter_counts around.callees) (length locals) arguments) (Sound (parameter_counts around.callees) (length locals) (1 + trees_nodes (tree f arguments)) (1 + trees_depth (tree f arguments)))
-      alls
-      (λ es s. record {
-        fits = (callable.0, s.count ∙ callable.1, s.fit);
-        few = omega (arith, s.few);
-        shallow = omega (arith, s.shallow);
-      }))
+    alls
+    (λ es s. record {
+      fits = (callable.0, s.count ∙ callable.1, s.fit);
+      few = omega (arith, s.few);
+      shallow = omega (arith, s.shallow);
+    }))
 
 form-sound : (around : Around) → AreWords around.symbols → (locals : List Token) (place : ℕ) (parts : Trees) (h : Option ExpressionHead)
     → PartsSound around locals place parts
@@ -166,7 +166,7 @@ mutual
   expression_sound around words locals (list place (tree first parts)) =
       IfOk-weaker (expression around locals (list place (tree first parts))) (Sound (parameter_counts around.callees) (length locals) (1 + trees_nodes parts) (1 + trees_depth parts)) (Sound (parameter_counts around.callees) (length locals) (tree_nodes (list place (tree first parts))) (tree_depth (list place (tree first parts))))
       (form-sound around words locals place parts (head expression_head around.text first)
-        (record { ones = one_sound around words locals place parts; twos = two_sound around words locals place parts; alls = behind_sound around words locals parts }))
+      (record { ones = one_sound around words locals place parts; twos = two_sound around words locals place parts; alls = behind_sound around words locals parts }))
       (λ e s. record { fits = s.fits; few = omega (arith, s.few); shallow = omega (arith, s.shallow) })
 
   all_sound : (around : Around) → AreWords around.symbols → (locals : List Token) (parts : Trees)
@@ -175,12 +175,12 @@ mutual
   all_sound around words locals (tree first rest) =
       IfOk-bind (expression around locals first) _ (Sound (parameter_counts around.callees) (length locals) (tree_nodes first) (tree_depth first)) (AreSound (parameter_counts around.callees) (length locals) (tree first rest)) (expression_sound around words locals first)
       (λ e s. IfOk-bind (all (expressions around locals rest)) _ (AreSound (parameter_counts around.callees) (length locals) rest) (AreSound (parameter_counts around.callees) (length locals) (tree first rest)) (all_sound around words locals rest)
-        (λ es ss. record {
-          fit = (s.fits, ss.fit);
-          few = omega (arith, s.few, ss.few);
-          shallow = omega (arith, s.shallow, ss.shallow);
-          count = ap (λ n. 1 + n) ss.count;
-        }))
+      (λ es ss. record {
+        fit = (s.fits, ss.fit);
+        few = omega (arith, s.few, ss.few);
+        shallow = omega (arith, s.shallow, ss.shallow);
+        count = ap (λ n. 1 + n) ss.count;
+      }))
 
   behind_sound : (around : Around) → AreWords around.symbols → (locals : List Token) (parts : Trees)
       → IfOk (all (drop 1 (expressions around locals parts))) (AreSound (parameter_counts around.callees) (length locals) (behind parts))
@@ -202,10 +202,10 @@ mutual
   two_sound around words locals place (tree t (tree u no_trees)) =
       IfOk-bind (expression around locals t) _ (Sound (parameter_counts around.callees) (length locals) (tree_nodes t) (tree_depth t)) (BothSound (parameter_counts around.callees) (length locals) (tree t (tree u no_trees))) (expression_sound around words locals t)
       (λ a s. IfOk-bind (expression around locals u) _ (Sound (parameter_counts around.callees) (length locals) (tree_nodes u) (tree_depth u)) (BothSound (parameter_counts around.callees) (length locals) (tree t (tree u no_trees))) (expression_sound around words locals u)
-        (λ b v. record {
-          first = s.fits;
-          second = v.fits;
-          few = omega (arith, s.few, v.few);
-          shallow = omega (arith, s.shallow, v.shallow);
-        }))
+      (λ b v. record {
+        first = s.fits;
+        second = v.fits;
+        few = omega (arith, s.few, v.few);
+        shallow = omega (arith, s.shallow, v.shallow);
+      }))
   two_sound around words locals place (tree t (tree u (tree v parts))) = tt

@@ -36,20 +36,20 @@ use Rattle.tracer_read.proofs.SoundStatements.{new_local-grows, BlockSound, bloc
 store_point-fits : (text : List ℕ) (parts : Tree × Tree) → IfOk (store_point text parts) FitsPoint
 store_point-fits text parts =
     IfOk-then (number_of text parts.0) _ FitsPoint (λ address _.
-      IfOk-then (number_of text parts.1) _ FitsPoint (λ len _.
-        IfOk-unless (not (leb 1 len && leb (address + len) (2 ^ 32))) (place_of parts.1) causes.Number (Ok (points.Store address len)) FitsPoint (λ is.
-          let both = both_true (leb 1 len) (leb (address + len) (2 ^ 32)) (not_false (leb 1 len && leb (address + len) (2 ^ 32)) is) in
-          (leb-true 1 len both.0, leb-true (address + len) (2 ^ 32) both.1))))
+    IfOk-then (number_of text parts.1) _ FitsPoint (λ len _.
+    IfOk-unless (not (leb 1 len && leb (address + len) (2 ^ 32))) (place_of parts.1) causes.Number (Ok (points.Store address len)) FitsPoint (λ is.
+    let both = both_true (leb 1 len) (leb (address + len) (2 ^ 32)) (not_false (leb 1 len && leb (address + len) (2 ^ 32)) is) in
+    (leb-true 1 len both.0, leb-true (address + len) (2 ^ 32) both.1))))
 
 point_form-fits : (around : Around) → AreWords around.symbols → (place : ℕ) (parts : Trees) (h : Option PointHead)
     → IfOk (point_form around place parts h) FitsPoint
 point_form-fits around words place parts None = tt
 point_form-fits around words place parts (Some Addr) =
     IfOk-then (only_part place parts) _ FitsPoint (λ t _.
-      IfOk-bind (number_of around.text t) _ (λ n. n < 2 ^ 32) FitsPoint (number_of-small around.text t) (λ n small. small))
+    IfOk-bind (number_of around.text t) _ (λ n. n < 2 ^ 32) FitsPoint (number_of-small around.text t) (λ n small. small))
 point_form-fits around words place parts (Some Enter) =
     IfOk-then (only_part place parts) _ FitsPoint (λ t _.
-      IfOk-bind (symbol_of around.text around.symbols t) _ (λ n. n < 2 ^ 32) FitsPoint (symbol_of-small around.text around.symbols words t) (λ n small. small))
+    IfOk-bind (symbol_of around.text around.symbols t) _ (λ n. n < 2 ^ 32) FitsPoint (symbol_of-small around.text around.symbols words t) (λ n small. small))
 point_form-fits around words place parts (Some Store) =
     IfOk-then (two_parts place parts) _ FitsPoint (λ two _. store_point-fits around.text two)
 
@@ -65,9 +65,9 @@ parameters_of-count text names no_trees few = (omega arith, few)
 parameters_of-count text names (tree p ps) few =
     let Q : List Token → Type 0 = λ more. (length more ≡ length names + part_count (tree p ps)) × (length more ≤ 16) in
     IfOk-then (word_of text p) _ Q (λ name _.
-      IfOk-bind (new_local text names name) _ (λ more. (length more ≡ length names + 1) × (length more ≤ 16)) Q (new_local-grows text names name few) (λ more grown.
-        IfOk-weaker (parameters_of text more ps) (λ all. (length all ≡ length more + part_count ps) × (length all ≤ 16)) Q (parameters_of-count text more ps grown.1)
-        (λ all counts. (omega (arith, counts.0, grown.0), counts.1))))
+    IfOk-bind (new_local text names name) _ (λ more. (length more ≡ length names + 1) × (length more ≤ 16)) Q (new_local-grows text names name few) (λ more grown.
+    IfOk-weaker (parameters_of text more ps) (λ all. (length all ≡ length more + part_count ps) × (length all ≤ 16)) Q (parameters_of-count text more ps grown.1)
+    (λ all counts. (omega (arith, counts.0, grown.0), counts.1))))
 
 -- ---- what is read so far
 
@@ -103,15 +103,15 @@ budget-sound : (around : Around) (place : ℕ) (parts : Trees) (counts left : Li
 budget-sound around place parts counts left nodes d s =
     let Q : Draft → Type 0 = DraftSound counts left (nodes + (1 + trees_nodes parts)) in
     IfOk-then (only_part place parts) _ Q (λ t _.
-      IfOk-unless (is_some d.budget) place causes.NameDoubled (number_within 1 1000000 around.text t >>= λ n. Ok (record d { budget = Some n })) Q (λ _.
-        IfOk-bind (number_within 1 1000000 around.text t) _ IsBudget Q (number_within-within 1 1000000 around.text t) (λ n within. record {
-          budget = within;
-          few = s.few;
-          small = omega (arith, s.small);
-          functions = s.functions;
-          tracepoints = s.tracepoints;
-          same = s.same;
-        })))
+    IfOk-unless (is_some d.budget) place causes.NameDoubled (number_within 1 1000000 around.text t >>= λ n. Ok (record d { budget = Some n })) Q (λ _.
+    IfOk-bind (number_within 1 1000000 around.text t) _ IsBudget Q (number_within-within 1 1000000 around.text t) (λ n within. record {
+      budget = within;
+      few = s.few;
+      small = omega (arith, s.small);
+      functions = s.functions;
+      tracepoints = s.tracepoints;
+      same = s.same;
+    })))
 
 at-sound : (around : Around) → AreWords around.symbols → (place : ℕ) (parts : Trees) (left : List ℕ) (nodes : ℕ) (d : Draft) → 1 + trees_depth parts ≤ 64
     → DraftSound (parameter_counts around.callees) left nodes d
@@ -121,19 +121,19 @@ at-sound around words place (tree point body) left nodes d low s =
     let counts = parameter_counts around.callees in
     let Q : Draft → Type 0 = DraftSound counts left (nodes + (1 + trees_nodes (tree point body))) in
     IfOk-unless (length d.tracepoints == 64) place causes.TooLarge _ Q (λ is.
-      IfOk-bind (point_of around point) _ FitsPoint Q (point_of-fits around words point) (λ p fits.
-        IfOk-bind (in_order (steps_of around body) []) _ (BlockSound counts 0 body) Q (block_sound around words body [] (omega arith)) (λ x b.
-          let t : TracepointTree = record { point = p; locals = length x.1; body = x.0 } in
-          let room : length d.tracepoints ≢ 64 = λ e. false≢true (sym is ∙ eq-eqb (length d.tracepoints) 64 e) in
-          let fits_t : FitsTracepoint counts t = record { point = fits; body = record { few_locals = b.most; shallow = omega (arith, b.shallow, low); numbers = b.fits } } in
-          record {
-            budget = s.budget;
-            few = omega (arith, length_push d.tracepoints t, s.few, room);
-            small = omega (arith, sum_push tracepoint_nodes d.tracepoints t, s.small, b.few);
-            functions = s.functions;
-            tracepoints = All-append (FitsTracepoint counts) d.tracepoints (t ∷ []) s.tracepoints (All-cons (FitsTracepoint counts) t [] fits_t (All-nil (FitsTracepoint counts)));
-            same = s.same;
-          })))
+    IfOk-bind (point_of around point) _ FitsPoint Q (point_of-fits around words point) (λ p fits.
+    IfOk-bind (in_order (steps_of around body) []) _ (BlockSound counts 0 body) Q (block_sound around words body [] (omega arith)) (λ x b.
+    let t : TracepointTree = record { point = p; locals = length x.1; body = x.0 } in
+    let room : length d.tracepoints ≢ 64 = λ e. false≢true (sym is ∙ eq-eqb (length d.tracepoints) 64 e) in
+    let fits_t : FitsTracepoint counts t = record { point = fits; body = record { few_locals = b.most; shallow = omega (arith, b.shallow, low); numbers = b.fits } } in
+    record {
+      budget = s.budget;
+      few = omega (arith, length_push d.tracepoints t, s.few, room);
+      small = omega (arith, sum_push tracepoint_nodes d.tracepoints t, s.small, b.few);
+      functions = s.functions;
+      tracepoints = All-append (FitsTracepoint counts) d.tracepoints (t ∷ []) s.tracepoints (All-cons (FitsTracepoint counts) t [] fits_t (All-nil (FitsTracepoint counts)));
+      same = s.same;
+    })))
 
 def-sound : (around : Around) → AreWords around.symbols → (place : ℕ) (parts : Trees) (left : List ℕ) (nodes : ℕ) (d : Draft) → 1 + trees_depth parts ≤ 64
     → DraftSound (parameter_counts around.callees) (parameter_counts (option_to_list (callee_from around.text parts)) ++ left) nodes d
@@ -147,25 +147,25 @@ def-sound around words place (tree f (tree (list p ps) body)) left nodes d low s
     let counts = parameter_counts around.callees in
     let Q : Draft → Type 0 = DraftSound counts left (nodes + (1 + trees_nodes (tree f (tree (list p ps) body)))) in
     IfOk-then (word_of around.text f) _ Q (λ name is.
-      IfOk-then (new_name around.text d.names name) _ Q (λ names _.
-        IfOk-bind (parameters_of around.text [] ps) _ (λ (more : List Token). (length more ≡ 0 + part_count ps) × (length more ≤ 16)) Q (parameters_of-count around.text [] ps (omega arith)) (λ locals c.
-          IfOk-bind (in_order (steps_of around body) locals) _ (BlockSound counts (length locals) body) Q (block_sound around words body locals c.1) (λ x b.
-            let g : FunctionTree = record { parameters = length locals; locals = length x.1; body = x.0 } in
-            let fits_g : FitsFunction counts g = record { parameters = b.more; body = record { few_locals = b.most; shallow = omega (arith, b.shallow, low); numbers = b.fits } } in
-            let named_is : map parameters d.functions ++ (part_count ps ∷ left) ≡ counts =
-                ap (λ r. map parameters d.functions ++ (parameter_counts (option_to_list (callee_named ps (result_ok r))) ++ left)) (sym is) ∙ s.same in
-            let count_is : length locals ≡ part_count ps = omega (arith, c.0) in
-            record {
-              budget = s.budget;
-              few = s.few;
-              small = omega (arith, sum_push function_nodes d.functions g, s.small, b.few);
-              functions = All-append (FitsFunction counts) d.functions (g ∷ []) s.functions (All-cons (FitsFunction counts) g [] fits_g (All-nil (FitsFunction counts)));
-              tracepoints = s.tracepoints;
-              same = ap (λ ns. ns ++ left) (map-append parameters d.functions (g ∷ []))
-                  ∙ append_assoc (map parameters d.functions) (length locals ∷ []) left
-                  ∙ ap (λ n. map parameters d.functions ++ (n ∷ left)) count_is
-                  ∙ named_is;
-            }))))
+    IfOk-then (new_name around.text d.names name) _ Q (λ names _.
+    IfOk-bind (parameters_of around.text [] ps) _ (λ (more : List Token). (length more ≡ 0 + part_count ps) × (length more ≤ 16)) Q (parameters_of-count around.text [] ps (omega arith)) (λ locals c.
+    IfOk-bind (in_order (steps_of around body) locals) _ (BlockSound counts (length locals) body) Q (block_sound around words body locals c.1) (λ x b.
+    let g : FunctionTree = record { parameters = length locals; locals = length x.1; body = x.0 } in
+    let fits_g : FitsFunction counts g = record { parameters = b.more; body = record { few_locals = b.most; shallow = omega (arith, b.shallow, low); numbers = b.fits } } in
+    let named_is : map parameters d.functions ++ (part_count ps ∷ left) ≡ counts =
+    ap (λ r. map parameters d.functions ++ (parameter_counts (option_to_list (callee_named ps (result_ok r))) ++ left)) (sym is) ∙ s.same in
+    let count_is : length locals ≡ part_count ps = omega (arith, c.0) in
+    record {
+      budget = s.budget;
+      few = s.few;
+      small = omega (arith, sum_push function_nodes d.functions g, s.small, b.few);
+      functions = All-append (FitsFunction counts) d.functions (g ∷ []) s.functions (All-cons (FitsFunction counts) g [] fits_g (All-nil (FitsFunction counts)));
+      tracepoints = s.tracepoints;
+      same = ap (λ ns. ns ++ left) (map-append parameters d.functions (g ∷ []))
+          ∙ append_assoc (map parameters d.functions) (length locals ∷ []) left
+          ∙ ap (λ n. map parameters d.functions ++ (n ∷ left)) count_is
+          ∙ named_is;
+    }))))
 
 form-sound : (around : Around) → AreWords around.symbols → (place : ℕ) (parts : Trees) (h : Option ItemHead) (left : List ℕ) (nodes : ℕ) (d : Draft) → 1 + trees_depth parts ≤ 64
     → DraftSound (parameter_counts around.callees) (parameter_counts (option_to_list (callee_if (is_def h) (callee_from around.text parts))) ++ left) nodes d
@@ -196,16 +196,20 @@ items-sound around words (tree first rest) nodes d low s =
     let left = parameter_counts (callees around.text rest) in
     let Q : Draft → Type 0 = DraftSound counts [] (nodes + trees_nodes (tree first rest)) in
     let split : parameter_counts (option_to_list (callee_at around.text first) ++ callees around.text rest) ≡ parameter_counts (option_to_list (callee_at around.text first)) ++ left =
-        map-append (λ (callee : Callee). callee.parameters) (option_to_list (callee_at around.text first)) (callees around.text rest) in
+    map-append (λ (callee : Callee). callee.parameters) (option_to_list (callee_at around.text first)) (callees around.text rest) in
     let s_split : DraftSound counts (parameter_counts (option_to_list (callee_at around.text first)) ++ left) nodes d = record {
-      budget = s.budget; few = s.few; small = s.small; functions = s.functions; tracepoints = s.tracepoints;
+      budget = s.budget;
+      few = s.few;
+      small = s.small;
+      functions = s.functions;
+      tracepoints = s.tracepoints;
       same = ap (λ ns. map parameters d.functions ++ ns) (sym split) ∙ s.same;
     } in
     IfOk-bind (item around first d) (items around rest) (DraftSound counts left (nodes + tree_nodes first)) Q
     (item-sound around words first left nodes d (omega (arith, low)) s_split)
     (λ e v. IfOk-weaker (items around rest e) (DraftSound counts [] (nodes + tree_nodes first + trees_nodes rest)) Q
-      (items-sound around words rest (nodes + tree_nodes first) e (omega (arith, low)) v)
-      (λ g w. record { budget = w.budget; few = w.few; small = omega (arith, w.small); functions = w.functions; tracepoints = w.tracepoints; same = w.same }))
+    (items-sound around words rest (nodes + tree_nodes first) e (omega (arith, low)) v)
+    (λ g w. record { budget = w.budget; few = w.few; small = omega (arith, w.small); functions = w.functions; tracepoints = w.tracepoints; same = w.same }))
 
 budget_or : (o : Option ℕ) → IfSome o IsBudget → IsBudget (unwrap_or o 1000000)
 budget_or None h = (omega arith, omega arith)
@@ -224,18 +228,23 @@ draft-within text symbols trees small =
     let around = surroundings text symbols trees in
     let counts = parameter_counts around.callees in
     let start : DraftSound counts counts 0 nothing = record {
-      budget = tt; few = omega arith; small = omega arith; functions = All-nil (FitsFunction counts); tracepoints = All-nil (FitsTracepoint counts); same = refl;
+      budget = tt;
+      few = omega arith;
+      small = omega arith;
+      functions = All-nil (FitsFunction counts);
+      tracepoints = All-nil (FitsTracepoint counts);
+      same = refl;
     } in
     IfOk-weaker (items around trees nothing) (DraftSound counts [] (0 + trees_nodes trees)) (λ d. IsWithinLimits (script_from d))
     (items-sound around (are_words symbols) trees 0 nothing small.shallow start)
     (λ d s.
-      let counts_are : counts ≡ map parameters d.functions = sym s.same ∙ append-nil (map parameters d.functions) in
-      let budget = budget_or d.budget s.budget in
-      record {
-        least_budget = budget.0;
-        most_budget = budget.1;
-        few_tracepoints = s.few;
-        few_nodes = omega (arith, s.small, small.few);
-        functions = subst (λ c. All (FitsFunction c) d.functions) counts_are s.functions;
-        tracepoints = subst (λ c. All (FitsTracepoint c) d.tracepoints) counts_are s.tracepoints;
-      })
+    let counts_are : counts ≡ map parameters d.functions = sym s.same ∙ append-nil (map parameters d.functions) in
+    let budget = budget_or d.budget s.budget in
+    record {
+      least_budget = budget.0;
+      most_budget = budget.1;
+      few_tracepoints = s.few;
+      few_nodes = omega (arith, s.small, small.few);
+      functions = subst (λ c. All (FitsFunction c) d.functions) counts_are s.functions;
+      tracepoints = subst (λ c. All (FitsTracepoint c) d.tracepoints) counts_are s.tracepoints;
+    })

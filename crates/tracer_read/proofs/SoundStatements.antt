@@ -28,8 +28,8 @@ new_local-grows text names token few =
     IfOk-bind (new_name text names token) _ Grown Q
     (IfOk-unless (is_some (name_index text names token)) token.place causes.NameDoubled (Ok (names ++ token ∷ [])) Grown (λ _. length_push names token))
     (λ more grown. IfOk-unless (length names == 16) token.place causes.TooLarge (Ok more) Q (λ is.
-      let other : length names ≡ 16 → ⊥ = λ e. false≢true (sym is ∙ eq-eqb (length names) 16 e) in
-      (grown, omega (arith, grown, few, other))))
+    let other : length names ≡ 16 → ⊥ = λ e. false≢true (sym is ∙ eq-eqb (length names) 16 e) in
+    (grown, omega (arith, grown, few, other))))
 
 record SmallPair (parts : Trees) (two : Tree × Tree) : Type 0 where
   few : tree_nodes two.1 ≤ trees_nodes parts
@@ -66,31 +66,31 @@ var-sound : (around : Around) → AreWords around.symbols → (place : ℕ) (par
 var-sound around words place parts locals few =
     let Q : Statement × List Token → Type 0 = FormSound around locals parts in
     IfOk-bind (two_parts place parts) _ (SmallPair parts) Q (two_parts-small place parts) (λ pair small.
-      IfOk-then (word_of around.text pair.0) _ Q (λ name _.
-        IfOk-bind (new_local around.text locals name) _ (λ more. (length more ≡ length locals + 1) × (length more ≤ 16)) Q (new_local-grows around.text locals name few) (λ more grown.
-          IfOk-bind (expression around more pair.1) _ (Sound (parameter_counts around.callees) (length more) (tree_nodes pair.1) (tree_depth pair.1)) Q (expression_sound around words more pair.1) (λ e s. record {
-            fits = (omega (arith, grown.0), s.fits);
-            few = omega (arith, s.few, small.few);
-            shallow = omega (arith, s.shallow, small.shallow);
-            more = omega (arith, grown.0);
-            most = grown.1;
-          }))))
+    IfOk-then (word_of around.text pair.0) _ Q (λ name _.
+    IfOk-bind (new_local around.text locals name) _ (λ more. (length more ≡ length locals + 1) × (length more ≤ 16)) Q (new_local-grows around.text locals name few) (λ more grown.
+    IfOk-bind (expression around more pair.1) _ (Sound (parameter_counts around.callees) (length more) (tree_nodes pair.1) (tree_depth pair.1)) Q (expression_sound around words more pair.1) (λ e s. record {
+      fits = (omega (arith, grown.0), s.fits);
+      few = omega (arith, s.few, small.few);
+      shallow = omega (arith, s.shallow, small.shallow);
+      more = omega (arith, grown.0);
+      most = grown.1;
+    }))))
 
 set-sound : (around : Around) → AreWords around.symbols → (place : ℕ) (parts : Trees) (locals : List Token) → length locals ≤ 16
     → IfOk (set_form around place parts locals) (FormSound around locals parts)
 set-sound around words place parts locals few =
     let Q : Statement × List Token → Type 0 = FormSound around locals parts in
     IfOk-bind (two_parts place parts) _ (SmallPair parts) Q (two_parts-small place parts) (λ pair small.
-      IfOk-then (word_of around.text pair.0) _ Q (λ name _.
-        IfOk-bind (or_fault name.place causes.NameUnknown (name_index around.text locals name)) _ (λ i. i < length locals) Q
-        (IfOk-or_fault name.place causes.NameUnknown (name_index around.text locals name) (λ i. i < length locals) (position-below _ locals)) (λ i below.
-          IfOk-bind (expression around locals pair.1) _ (Sound (parameter_counts around.callees) (length locals) (tree_nodes pair.1) (tree_depth pair.1)) Q (expression_sound around words locals pair.1) (λ e s. record {
-            fits = (below, s.fits);
-            few = omega (arith, s.few, small.few);
-            shallow = omega (arith, s.shallow, small.shallow);
-            more = omega arith;
-            most = few;
-          }))))
+    IfOk-then (word_of around.text pair.0) _ Q (λ name _.
+    IfOk-bind (or_fault name.place causes.NameUnknown (name_index around.text locals name)) _ (λ i. i < length locals) Q
+    (IfOk-or_fault name.place causes.NameUnknown (name_index around.text locals name) (λ i. i < length locals) (position-below _ locals)) (λ i below.
+    IfOk-bind (expression around locals pair.1) _ (Sound (parameter_counts around.callees) (length locals) (tree_nodes pair.1) (tree_depth pair.1)) Q (expression_sound around words locals pair.1) (λ e s. record {
+      fits = (below, s.fits);
+      few = omega (arith, s.few, small.few);
+      shallow = omega (arith, s.shallow, small.shallow);
+      more = omega arith;
+      most = few;
+    }))))
 
 -- what is known of the parts of a list
 record PartsDone (around : Around) (place : ℕ) (parts : Trees) (locals : List Token) : Type 0 where
@@ -134,7 +134,7 @@ mutual
       IfOk-weaker (step_of around (list place (tree first parts)) locals) (FormSound around locals parts)
       (StepSound (parameter_counts around.callees) (length locals) (tree_nodes (list place (tree first parts))) (tree_depth (list place (tree first parts))))
       (form-sound around words place parts locals (head statement_head around.text first) few
-        (record { does = block_sound around words parts locals few; ifs = if_sound around words place parts locals few; whiles = while_sound around words place parts locals few }))
+      (record { does = block_sound around words parts locals few; ifs = if_sound around words place parts locals few; whiles = while_sound around words place parts locals few }))
       (λ x s. record { fits = s.fits; few = omega (arith, s.few); shallow = omega (arith, s.shallow); more = s.more; most = s.most })
 
   pub block_sound : (around : Around) → AreWords around.symbols → (parts : Trees) (locals : List Token) → length locals ≤ 16
@@ -143,13 +143,13 @@ mutual
   block_sound around words (tree first rest) locals few =
       IfOk-bind (step_of around first locals) _ (StepSound (parameter_counts around.callees) (length locals) (tree_nodes first) (tree_depth first)) (BlockSound (parameter_counts around.callees) (length locals) (tree first rest)) (step_sound around words first locals few)
       (λ x s. IfOk-bind (in_order (steps_of around rest) x.1) _ (BlockSound (parameter_counts around.callees) (length x.1) rest) (BlockSound (parameter_counts around.callees) (length locals) (tree first rest)) (block_sound around words rest x.1 s.most)
-        (λ y v. record {
-          fits = (FitsStatement-more (parameter_counts around.callees) (length x.1) (length y.1) x.0 v.more s.fits, v.fits);
-          few = omega (arith, s.few, v.few);
-          shallow = omega (arith, s.shallow, v.shallow);
-          more = omega (arith, s.more, v.more);
-          most = v.most;
-        }))
+      (λ y v. record {
+        fits = (FitsStatement-more (parameter_counts around.callees) (length x.1) (length y.1) x.0 v.more s.fits, v.fits);
+        few = omega (arith, s.few, v.few);
+        shallow = omega (arith, s.shallow, v.shallow);
+        more = omega (arith, s.more, v.more);
+        most = v.most;
+      }))
 
   if_sound : (around : Around) → AreWords around.symbols → (place : ℕ) (parts : Trees) (locals : List Token) → length locals ≤ 16
       → IfOk (if_form place (expressions around locals parts) (steps_of around parts) locals) (FormSound around locals parts)
@@ -159,14 +159,14 @@ mutual
   if_sound around words place (tree a (tree b (tree c no_trees))) locals few =
       IfOk-bind (expression around locals a) _ (Sound (parameter_counts around.callees) (length locals) (tree_nodes a) (tree_depth a)) (FormSound around locals (tree a (tree b (tree c no_trees)))) (expression_sound around words locals a)
       (λ e s. IfOk-bind (step_of around b locals) _ (StepSound (parameter_counts around.callees) (length locals) (tree_nodes b) (tree_depth b)) (FormSound around locals (tree a (tree b (tree c no_trees)))) (step_sound around words b locals few)
-        (λ x v. IfOk-bind (step_of around c x.1) _ (StepSound (parameter_counts around.callees) (length x.1) (tree_nodes c) (tree_depth c)) (FormSound around locals (tree a (tree b (tree c no_trees)))) (step_sound around words c x.1 v.most)
-          (λ y w. record {
-            fits = (FitsExpression-more (parameter_counts around.callees) (length locals) (length y.1) e (omega (arith, v.more, w.more)) s.fits, FitsStatement-more (parameter_counts around.callees) (length x.1) (length y.1) x.0 w.more v.fits, w.fits);
-            few = omega (arith, s.few, v.few, w.few);
-            shallow = omega (arith, s.shallow, v.shallow, w.shallow);
-            more = omega (arith, v.more, w.more);
-            most = w.most;
-          })))
+      (λ x v. IfOk-bind (step_of around c x.1) _ (StepSound (parameter_counts around.callees) (length x.1) (tree_nodes c) (tree_depth c)) (FormSound around locals (tree a (tree b (tree c no_trees)))) (step_sound around words c x.1 v.most)
+      (λ y w. record {
+        fits = (FitsExpression-more (parameter_counts around.callees) (length locals) (length y.1) e (omega (arith, v.more, w.more)) s.fits, FitsStatement-more (parameter_counts around.callees) (length x.1) (length y.1) x.0 w.more v.fits, w.fits);
+        few = omega (arith, s.few, v.few, w.few);
+        shallow = omega (arith, s.shallow, v.shallow, w.shallow);
+        more = omega (arith, v.more, w.more);
+        most = w.most;
+      })))
   if_sound around words place (tree a (tree b (tree c (tree d rest)))) locals few = tt
 
   while_sound : (around : Around) → AreWords around.symbols → (place : ℕ) (parts : Trees) (locals : List Token) → length locals ≤ 16
@@ -175,10 +175,10 @@ mutual
   while_sound around words place (tree a rest) locals few =
       IfOk-bind (expression around locals a) _ (Sound (parameter_counts around.callees) (length locals) (tree_nodes a) (tree_depth a)) (FormSound around locals (tree a rest)) (expression_sound around words locals a)
       (λ e s. IfOk-bind (in_order (steps_of around rest) locals) _ (BlockSound (parameter_counts around.callees) (length locals) rest) (FormSound around locals (tree a rest)) (block_sound around words rest locals few)
-        (λ x v. record {
-          fits = (FitsExpression-more (parameter_counts around.callees) (length locals) (length x.1) e v.more s.fits, v.fits);
-          few = omega (arith, s.few, v.few);
-          shallow = omega (arith, s.shallow, v.shallow);
-          more = v.more;
-          most = v.most;
-        }))
+      (λ x v. record {
+        fits = (FitsExpression-more (parameter_counts around.callees) (length locals) (length x.1) e v.more s.fits, v.fits);
+        few = omega (arith, s.few, v.few);
+        shallow = omega (arith, s.shallow, v.shallow);
+        more = v.more;
+        most = v.most;
+      }))

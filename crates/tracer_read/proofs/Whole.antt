@@ -47,6 +47,6 @@ trees-small text tokens trees passed nodes = subst Small (sym nodes) (first_pass
 
 pub read_within : (text : List ℕ) (symbols : List Symbol) (trees : Trees) (d : Draft) → Small trees
     → items (surroundings text symbols trees) trees nothing ≡ Ok d → IsWithinLimits (script_from d)
-read_within text symbols trees d small is = 
+read_within text symbols trees d small is =
     let P : Result Draft ScriptFault → Type 0 = λ r. IfOk r (λ d. IsWithinLimits (script_from d)) in
     subst P is (draft-within text symbols trees small)

@@ -63,8 +63,8 @@ abbrev pub budget_form : Around → ℕ → Trees → Draft → Result Draft Scr
 budget_form around place parts draft = do
   t ← only_part place parts
   unless (is_some draft.budget) place causes.NameDoubled (
-    number_within 1 1000000 around.text t >>= λ n. Ok (record draft { budget = Some n })
-  )
+      number_within 1 1000000 around.text t >>= λ n. Ok (record draft { budget = Some n })
+      )
 
 -- parameters behind others
 abbrev pub parameters_of : List ℕ → List Token → Trees → Result (List Token) ScriptFault
@@ -89,7 +89,7 @@ def_form around place (tree f (tree parameters body)) draft = do
   Ok (record draft {
     names = names;
     functions = draft.functions
-    ++ record { parameters = length locals; locals = length read.1; body = read.0 } ∷ [];
+        ++ record { parameters = length locals; locals = length read.1; body = read.0 } ∷ [];
   })
 def_form around place parts draft = Err (fault place causes.Arity)
 
@@ -99,8 +99,8 @@ store_point text parts = do
   address ← number_of text parts.0
   len ← number_of text parts.1
   unless (not (nat_le 1 len && nat_le (address + len) (2 ^ 32))) (place_of parts.1) causes.Number (
-    Ok (points.Store address len)
-  )
+      Ok (points.Store address len)
+      )
 
 abbrev pub point_form : Around → ℕ → Trees → Option PointHead → Result Point ScriptFault
 point_form around place parts None = Err (fault place causes.Form)
@@ -132,7 +132,7 @@ at_form around place (tree point body) draft =
       read ← in_order (steps_of around body) []
       Ok (record draft {
         tracepoints = draft.tracepoints
-        ++ record { point = p; locals = length read.1; body = read.0 } ∷ [];
+            ++ record { point = p; locals = length read.1; body = read.0 } ∷ [];
       })
     )
 

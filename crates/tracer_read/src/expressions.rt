@@ -66,11 +66,7 @@ fn callee_place(context: &Context<'_>, name: &[u8]) -> Option<usize>
 }
 
 /// The number of the function that is called, from the parts of the call.
-fn called(
-    context: &Context<'_>,
-    place: u32,
-    parts: &Nodes,
-) -> Result<u32, Refused<ScriptFault>>
+fn called(context: &Context<'_>, place: u32, parts: &Nodes) -> Result<u32, Refused<ScriptFault>>
     ensures { Gives (λ n. n) result (called (around context.now) place (trees_of parts.now)) }
 {
     let Nodes::And(name, arguments) = parts else {

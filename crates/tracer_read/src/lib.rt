@@ -12,3 +12,6 @@ mod scripts;
 mod statements;
 
 pub use reading::read_script;
+
+#[cfg(test)]
+mod tests;

@@ -98,9 +98,7 @@ pub fn name_index(text: &[u8], names: &[Token], token: Token) -> Option<usize>
     ensures { result ≡ name_index text.now names.now token }
 {
     let word = spelling(text, token);
-    names
-        .iter()
-        .position(|name| spelling(text, *name) == word)
+    names.iter().position(|name| spelling(text, *name) == word)
 }
 
 /// Puts a new name behind the others.
@@ -157,11 +155,7 @@ fn symbol_value(symbols: &[Symbol], name: &[u8]) -> Option<u32>
 }
 
 /// The value of the symbol in a place that takes one.
-pub fn symbol_of(
-    text: &[u8],
-    symbols: &[Symbol],
-    node: &Node,
-) -> Result<u32, Refused<ScriptFault>>
+pub fn symbol_of(text: &[u8], symbols: &[Symbol], node: &Node) -> Result<u32, Refused<ScriptFault>>
     ensures { Gives (λ n. n) result (symbol_of text.now symbols.now (tree_of node.now)) }
 {
     let token = word_of(text, node)?;
