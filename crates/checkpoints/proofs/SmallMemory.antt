@@ -15,6 +15,12 @@ use Rattle.sl_model.proofs.Steps.{words-set_register}
 use Rattle.sl_model.proofs.PagesLaws.{is_some-set_bytes}
 use Rattle.sl_model.specs.State.{State, IsOpening}
 use Rattle.page_frames.specs.MarkedPages.{MarkedPages, with_page, with_bytes}
+use Rattle.sl_model.specs.Mapping.{zero_page}
+use Rattle.sl_model.specs.Marks.{MarksGoOn}
+use Rattle.sl_model.specs.declared.layout.TheConstants.{PROGRAM_PAGES}
+use Rattle.std.specs.Prelude.{Contains}
+use Rattle.std.proofs.lemmas.List.Elements.{Contains-append_left, Contains-push}
+use Rattle.checkpoints.specs.Marked.{IsAllDirty}
 use Rattle.checkpoints.proofs.Sizes.{part_len}
 
 length-filter_le : (p : ℕ → Bool) (xs : List ℕ) → length (filter p xs) ≤ length xs
@@ -120,3 +126,30 @@ not_in_empty m q is some =
     let none : is_some (get m q) ≡ false = ap (λ (n : Pages). is_some (get n q)) is ∙ ap is_some (get-empty nat_cmp q) in
     let found : is_some (get m q) ≡ true = some in
     absurd cc
+
+-- ---- memories with all pages dirty
+
+pub all_dirty-empty : (m : MarkedPages) → m.pages ≡ empty → IsAllDirty m
+all_dirty-empty m is q some = absurd (not_in_empty m.pages q is some)
+
+dirty_if : (b : Bool) (m : MarkedPages) (page q : ℕ) → contains_key m.pages page ≡ b → IsAllDirty m
+    → (IsSome (get m.pages q)) ⊎ (q ≡ page)
+    → Contains (if b then m else record { pages = insert m.pages page zero_page; dirty = m.dirty ++ page ∷ [] }).dirty q
+dirty_if true m page q is all (inl before) = all q before
+dirty_if true m page q is all (inr here) = all q (rw here is)
+dirty_if false m page q is all (inl before) = Contains-append_left m.dirty (page ∷ []) q (all q before)
+dirty_if false m page q is all (inr here) = rw here (Contains-push m.dirty page)
+
+pub all_dirty-mapped : (m n : MarkedPages) (page : ℕ) → n ≡ with_page m page → IsAllDirty m → IsAllDirty n
+all_dirty-mapped m n page is all q some =
+    subst (λ (v : MarkedPages). Contains v.dirty q) (sym is)
+    (dirty_if (contains_key m.pages page) m page q refl all
+    (mapped_more m page q (subst (λ (v : MarkedPages). IsSome (get v.pages q)) is some)))
+
+pub all_dirty-goes_on : (m n : MarkedPages) → MarksGoOn true m.pages m.dirty n.pages n.dirty
+    → ((q : ℕ) → IsSome (get n.pages q) → q < PROGRAM_PAGES) → IsAllDirty m → IsAllDirty n
+all_dirty-goes_on m n on below all q some = ⊎_elim
+    (λ (same : get n.pages q ≡ get m.pages q).
+    rw on.keeps.1 (Contains-append_left m.dirty on.keeps.0 q (all q (rw same at some))))
+    (λ (dirty : Contains n.dirty q). dirty)
+    (on.marks refl q (below q some))

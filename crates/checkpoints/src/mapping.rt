@@ -1,6 +1,6 @@
 //! Listed pages that are put into memory.
 
-ghost use Rattle.std.specs.Prelude.{◌≡◌, ◌≤◌, List, [], ◌∷◌, ◌++◌};
+ghost use Rattle.std.specs.Prelude.{◌≡◌, ◌≤◌, List, ◌∷◌, ◌++◌};
 ghost use Rattle.std.specs.List.{AllByRecursion};
 ghost use Rattle.sl_model.specs.Pages.{Pages};
 ghost use Rattle.rec_format.specs.declared.recording.ListedPage.{ListedPage as Listed};
@@ -39,12 +39,12 @@ fn put_pages(frames: &mut Frames, listed: &[ListedPage])
 
 impl Checkpoints {
     /// The same for all pages that are listed up to checkpoint `k`: the bytes of each page are
-    /// written once, from its last listing.
+    /// written once, from its last listing. The pages that were written are dirty then.
     pub(crate) fn put_lists(&self, frames: &mut Frames, k: u32)
-        requires within { k ≤ end_place self.now.rec }
-        requires clean { frames.old.dirty ≡ [] }
+        requires { k ≤ end_place self.now.rec }
         ensures { frames.new.pages ≡ put_all_listed frames.old.pages (listed_to self.now.rec k) }
     {
+        frames.clear_dirty();
         let mut left = k;
         while left > 0 {
             put_pages(frames, self.checkpoint(left).pages.as_slice());

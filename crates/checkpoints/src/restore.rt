@@ -73,7 +73,6 @@ impl Checkpoints {
         f.copy_from(&self.opening)?;
         let start = self.machine.layout.brk_start;
         f.map_pages(start / 4096, (end - start) / 4096)?;
-        f.clear_dirty();
         self.put_lists(f, k);
         Ok(())
     }

@@ -1,10 +1,12 @@
 //! Checkpoints of small recordings, with answers that were worked by hand.
 
-ghost use Rattle.std.specs.Prelude.{◌≡◌, ℕ, ◌-◌, ◌≤◌, ◌⊎◌, IsSome, IfOk};
+ghost use Rattle.std.specs.Prelude.{◌≡◌, ℕ, ◌<◌, ◌≤◌, ◌^◌, ◌⊎◌, IsSome, IfOk, length, true};
 ghost use Rattle.std.specs.FinMap.{get, len};
 ghost use Rattle.rv_machine.specs.Machine.{state_of};
 ghost use Rattle.sl_model.specs.State.{IsOpening};
-ghost use Rattle.checkpoints.specs.Marked.{HoldsRecorded, IsAllDirty};
+ghost use Rattle.sl_model.specs.Marks.{MarksGoOn};
+ghost use Rattle.page_frames.specs.MarkedPages.{IsKept};
+ghost use Rattle.checkpoints.specs.Marked.{IsAllDirty};
 
 use crate::Checkpoints;
 use call_log::BreakKind;
@@ -64,6 +66,7 @@ fn memory(alloc: Global) -> Result<Frames, Memory>
     frames.map_page(16)?;
     frames.map_page(20)?;
     frames.store(0x10000, 4, 0x30201);
+    let _kept = frames.dirty_len();
     Ok(frames)
 }
 
@@ -127,6 +130,7 @@ fn replayed(alloc: Global) -> Result<(Machine, Frames), Memory>
     for i in 0..1024 {
         frames.store(0x10000 + 4 * i, 4, 0x0909_0909);
     }
+    let _kept = frames.dirty_len();
     Ok((machine, frames))
 }
 
@@ -149,9 +153,10 @@ fn expect(
     state: &(Machine, Frames),
     found: Option<BreakKind>,
 )
-    requires { HoldsRecorded checkpoints.now.opening.pages checkpoints.now.rec (k - 1) state.now.1 }
+    requires { IsAllDirty state.now.1 }
 {
-    assert!(rt; 0 < k && k <= checkpoints.segments());
+    assert!(rt; 0 < k);
+    assert!(rt; k <= checkpoints.segments());
     let told = checkpoints.differs(k, &state.0, &state.1);
     assert!(rt; told == found);
 }
@@ -225,6 +230,30 @@ fn parts_that_differ(rt: HostRuntime) -> Result<(), Fail> {
     Ok(())
 }
 
+/// Writes a byte, where it is mapped.
+fn write_byte(frames: &mut Frames, address: u32, value: u32)
+    requires { IsAllDirty frames.old }
+    ensures { IsAllDirty frames.new }
+{
+    frames.store(address, 1, value);
+    let _kept = frames.dirty_len();
+}
+
+/// Compares a state with a checkpoint, where part 0 stands for no difference.
+fn expect_told(
+    rt: &impl Abort,
+    checkpoints: &Checkpoints,
+    k: u32,
+    state: &(Machine, Frames),
+    told: (u32, u32, u32, u32),
+)
+    requires { IsAllDirty state.now.1 }
+{
+    let (part, at, recorded, replayed) = told;
+    let found = broke(k, part, at, recorded, replayed);
+    expect(rt, checkpoints, k, state, if part == 0 { None } else { found });
+}
+
 #[test]
 fn pages_that_differ(rt: HostRuntime) -> Result<(), Fail> {
     let lists = [
@@ -280,17 +309,9 @@ fn pages_that_differ(rt: HostRuntime) -> Result<(), Fail> {
             ],
         ),
     ] {
-        state.1.store(address, 1, value);
-        for (i, (part, at, recorded, replayed)) in differ.iter().enumerate() {
-            let k = i as u32 + 1;
-            let found = broke(k, *part, *at, *recorded, *replayed);
-            expect(
-                &rt,
-                &checkpoints,
-                k,
-                &state,
-                if *part == 0 { None } else { found },
-            );
+        write_byte(&mut state.1, address, value);
+        for (i, told) in differ.iter().enumerate() {
+            expect_told(&rt, &checkpoints, i as u32 + 1, &state, *told);
         }
     }
     Ok(())
@@ -386,12 +407,19 @@ fn machines_of_checkpoints(rt: HostRuntime) -> Result<(), Fail> {
     Ok(())
 }
 
-/// What a run from checkpoint 1 changes: page 20, whose bytes are all 4 then.
-fn change_page(frames: &mut Frames, byte: u8) {
-    let bytes = [byte; 4096];
-    if frames.is_mapped(0x14000, 4096) {
-        frames.copy_in(0x14000, &bytes);
+/// Writes the bytes of page 20, where it is mapped.
+fn write_page(frames: &mut Frames, bytes: &[u8])
+    requires { length bytes.now < 2 ^ 32 }
+    ensures goes_on { MarksGoOn true
+        frames.old.pages frames.old.dirty frames.new.pages frames.new.dirty }
+    ensures kept { IsKept frames.new }
+{
+    if !frames.is_mapped(0x14000, bytes.len() as u32) {
+        let _kept = frames.dirty_len();
+        return;
     }
+    frames.copy_in(0x14000, bytes);
+    let _kept = frames.dirty_len();
 }
 
 #[test]
@@ -401,12 +429,12 @@ fn changes_alone_are_compared(rt: HostRuntime) -> Result<(), Fail> {
     let (mut machine, mut frames) = replayed(rt.alloc())?;
     assert!(rt; 1 <= checkpoints.segments());
     checkpoints.state_at(1, &mut machine, &mut frames)?;
-    change_page(&mut frames, 4);
+    write_page(&mut frames, &[4; 4096]);
     assert_eq!(rt; frames.dirty_len(), 1);
     assert!(rt; frames.is_dirty(20));
     assert!(rt; 2 <= checkpoints.segments());
     assert!(rt; checkpoints.differs(2, &machine, &frames).is_none());
-    frames.store(0x14000, 1, 1);
+    write_page(&mut frames, &[1]);
     assert!(rt; checkpoints.differs(2, &machine, &frames) == broke(2, 35, 0x14000, 4, 1));
     Ok(())
 }

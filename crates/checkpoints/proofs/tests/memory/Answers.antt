@@ -5,6 +5,7 @@ use Rattle.std.specs.FinMap.{get, len, len-empty}
 use Rattle.sl_model.specs.Pages.{low_bytes}
 use Rattle.page_frames.specs.MarkedPages.{MarkedPages}
 use Rattle.checkpoints.proofs.SmallMemory.{mapped_more, mapped_before, len_of_part, not_in_empty}
+use Rattle.checkpoints.proofs.SmallMemory.{all_dirty-empty, all_dirty-mapped, all_dirty-goes_on}
 use Rattle.checkpoints.proofs.tests.memory.Goals as goal
 
 pub map_page-requires-clause-few : goal.map_page-requires-clause-few
@@ -30,3 +31,10 @@ returns-clause-few c =
     let most = len_of_part c.store.new.self.pages c.map_page-2.new.self.pages (λ q h.
     mapped_before c.map_page-2.new.self c.store.result 0x10000 (low_bytes 4 0x30201) q (subst (λ (m : MarkedPages). IsSome (get m.pages q)) c.store.ensures.contents h)) in
     omega (arith, most, c.map_page.ensures.one_more, c.map_page-2.ensures.one_more)
+
+pub returns-clause-dirty : goal.returns-clause-dirty
+returns-clause-dirty c =
+    all_dirty-goes_on c.map_page-2.new.self c.store.new.self c.store.ensures.marks c.dirty_len-kept.ensures.kept.below
+    (all_dirty-mapped c.map_page.new.self c.map_page-2.new.self 20 c.in_ok-map_page-2.ensures.ok
+    (all_dirty-mapped c.in_ok-frames.frames c.map_page.new.self 16 c.in_ok-map_page.ensures.ok
+    (all_dirty-empty c.in_ok-frames.frames c.in_ok-frames.ensures.pages)))

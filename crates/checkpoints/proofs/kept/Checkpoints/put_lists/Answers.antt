@@ -4,13 +4,15 @@ use Rattle.rec_format.specs.Rules.{IsListedPage}
 use Rattle.rec_format.specs.declared.recording.ListedPage.{ListedPage}
 use Rattle.rec_format.specs.Recorded.{listed_to, put_all_listed}
 use Rattle.rec_format.proofs.Listed.{IsCheckpoint-at}
+use Rattle.sl_model.specs.Pages.{Pages}
+use Rattle.checkpoints.specs.Putting.{ArePut}
 use Rattle.checkpoints.proofs.Puts.{put-none, before-checkpoint}
 use Rattle.checkpoints.proofs.kept.Checkpoints.put_lists.Goals as goal
 
 pub loop-left-init : goal.loop-left-init
 loop-left-init c = record {
   within = omega arith;
-  put = ([], sym (append-nil (listed_to c.args.self.now.rec c.args.k)), put-none c.args.frames.now c.requires.clean);
+  put = ([], sym (append-nil (listed_to c.args.self.now.rec c.args.k)), subst (λ (p : Pages). ArePut p [] c.clear_dirty.new.self) (ap (λ m. m.pages) c.clear_dirty.ensures) (put-none c.clear_dirty.new.self (ap (λ m. m.dirty) c.clear_dirty.ensures)));
 }
 
 pub put_pages-requires : goal.put_pages-requires
@@ -27,8 +29,8 @@ loop-left-preserved c =
       within = omega (arith, c.loop-left.invariant.within);
       put = (
         pages ++ put.0,
-        before-checkpoint rec c.args.k c.loop-left.left put.0 pages (omega arith) (omega (arith, c.loop-left.invariant.within, c.requires.within))
-            (c.as_slice.ensures ∙ ap (λ d. d.pages) c.checkpoint.ensures) put.1,
+        before-checkpoint rec c.args.k c.loop-left.left put.0 pages (omega arith) (omega (arith, c.loop-left.invariant.within, c.requires))
+        (c.as_slice.ensures ∙ ap (λ d. d.pages) c.checkpoint.ensures) put.1,
         c.put_pages.ensures c.args.frames.now.pages put.0 put.2,
       );
     }

@@ -1,0 +1,15 @@
+use Rattle.std.proofs.Common.{true, sym, subst}
+use Rattle.sl_model.specs.Marks.{MarksGoOn}
+use Rattle.sl_model.proofs.MarksLaws.{MarksGoOn-same}
+use Rattle.page_frames.specs.MarkedPages.{MarkedPages}
+use Rattle.page_frames.proofs.Marking.{mark_bytes-goes_on}
+use Rattle.checkpoints.proofs.tests.write_page.Goals as goal
+
+pub returns-then-not-is_mapped-clause-goes_on : goal.returns-then-not-is_mapped-clause-goes_on
+returns-then-not-is_mapped-clause-goes_on c = MarksGoOn-same true c.args.frames.now.pages c.args.frames.now.dirty
+
+pub returns-clause-goes_on : goal.returns-clause-goes_on
+returns-clause-goes_on c =
+    let old = c.args.frames.now in
+    subst (λ (m : MarkedPages). MarksGoOn true old.pages old.dirty m.pages m.dirty) (sym c.copy_in.ensures)
+    (mark_bytes-goes_on old.pages old.dirty 0x14000 c.args.bytes.now)
