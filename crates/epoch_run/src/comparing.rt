@@ -1,11 +1,12 @@
 //! What is tried at the checkpoint that an epoch ends at.
 
-ghost use Rattle.std.specs.Prelude.{◌≡◌, ◌<◌, ◌≤◌};
+ghost use Rattle.std.specs.Prelude.{◌≡◌, ◌-◌, ◌<◌, ◌≤◌};
 ghost use Rattle.std.specs.Option.{option_or};
 ghost use Rattle.rec_format.specs.Recorded.{end_place, checkpoint_at};
 ghost use Rattle.rec_format.specs.Compared.{checkpoint_break};
 ghost use Rattle.replay.specs.Breaks.{at_count};
 ghost use Rattle.checkpoints.specs.RecordedRun.{opened_of};
+ghost use Rattle.checkpoints.specs.Marked.{HoldsRecorded};
 ghost use Rattle.epoch_run.specs.Epochs.{early_exit, closing_break};
 ghost use Rattle.epoch_run.specs.Plans.{state_in};
 
@@ -43,6 +44,8 @@ fn closing_break(plan: &Plan, k: u32, worker: &Worker) -> Option<BreakKind>
 pub fn break_at_checkpoint(plan: &Plan, k: u32, worker: &Worker) -> Option<Break>
     requires some { 0 < k }
     requires within { k ≤ end_place plan.now.checkpoints.rec }
+    requires holds { let opened = opened_of plan.now.checkpoints in
+        HoldsRecorded opened.pages plan.now.checkpoints.rec (k - 1) worker.now.f }
     ensures { let rec = plan.now.checkpoints.rec in
         let opened = opened_of plan.now.checkpoints in
         let s = state_in worker.now in

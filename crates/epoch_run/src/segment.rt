@@ -1,7 +1,8 @@
 //! One interval of a recorded run, from a checkpoint to the next one.
 
-ghost use Rattle.std.specs.Prelude.{◌≡◌, ◌+◌, ◌-◌, ◌<◌, ◌≤◌, ◌^◌, ◌++◌, OnOk};
+ghost use Rattle.std.specs.Prelude.{◌≡◌, ◌+◌, ◌-◌, ◌<◌, ◌≤◌, ◌^◌, ◌++◌, OnOk, true};
 ghost use Rattle.sl_model.specs.State.{Fits};
+ghost use Rattle.sl_model.specs.Marks.{MarksGoOn};
 ghost use Rattle.rec_format.specs.Recorded.{end_place, recorded_state};
 ghost use Rattle.checkpoints.specs.RecordedRun.{opened_of};
 ghost use Rattle.epoch_run.specs.Epochs.{epoch_size, epoch_break, epoch_records};
@@ -51,6 +52,8 @@ fn run_to<L: Ledger>(
         CameTo rec (tracers_of plan.now) (state_in worker.old) left (state_in worker.new)
         records.old.items records.new.items result }
     ensures count { OnOk result (worker.new.m.count ≡ upto) }
+    ensures marks { OnOk result (MarksGoOn true worker.old.f.pages worker.old.f.dirty
+        worker.new.f.pages worker.new.f.dirty) }
     ensures steps { steps.new + worker.old.m.count ≤ steps.old + upto }
 {
     for done in worker.m.count..upto {
@@ -63,7 +66,9 @@ fn run_to<L: Ledger>(
     Ok(())
 }
 
-/// Replays the interval from checkpoint `j` to the next one, from the state that `j` records.
+/// Replays the interval from checkpoint `j` to the next one, from the state that `j` records. A
+/// page that is not dirty at its end holds what `j` records, so a comparison looks at the dirty
+/// ones and those that the next checkpoint lists; then no page is dirty.
 ///
 /// # Errors
 ///
@@ -93,9 +98,11 @@ pub fn run_segment<L: Ledger>(
     let next = j + 1;
     let upto = recorded_count(plan, next);
     run_to(alloc, plan, upto, worker, records, steps)?;
+    let _kept = worker.f.dirty_len();
     if let Some(broken) = break_at_checkpoint(plan, next, worker) {
         return Err(Refused::Fault(broken));
     }
     fire_at_checkpoint(alloc, plan, next, worker, records)?;
+    worker.f.clear_dirty();
     Ok(())
 }

@@ -1,4 +1,7 @@
-use Rattle.std.proofs.Common.{◌+◌, sym, ◌∙◌}
+use Rattle.std.proofs.Common.{◌≡◌, ◌+◌, ◌-◌, sym, ap, subst, arith, ◌∙◌}
+use Rattle.page_frames.specs.MarkedPages.{MarkedPages}
+use Rattle.checkpoints.specs.Marked.{HoldsRecorded}
+use Rattle.checkpoints.proofs.Marked.{recorded-holds, holds-goes_on}
 use Rattle.std.proofs.lemmas.Result.{err_from_is_err_and}
 use Rattle.checkpoints.specs.RecordedRun.{opened_of}
 use Rattle.epoch_run.specs.Plans.{tracers_of, state_in}
@@ -70,4 +73,17 @@ pub returns-clause-state : goal.returns-clause-state
 returns-clause-state g c =
     let plan = c.args.plan.now in
     let is = of_plan plan c.args.j c.args.worker.now c.recorded_count-upto.result c.requires.within c.requires.at c.recorded_count-upto.ensures.count in
-    λ inner. segment_state plan.checkpoints.rec (opened_of plan.checkpoints) c.args.j (state_in c.args.worker.now) c.recorded_count-upto.result is (tracers_of plan) (state_in c.run_to.new.worker) c.args.records.now.items c.run_to.new.records.items c.in_ok-run_to.ensures.came inner (sym (c.in_default.ensures ∙ segment_closes plan.checkpoints.rec (opened_of plan.checkpoints) c.args.j (state_in c.args.worker.now) c.recorded_count-upto.result is (tracers_of plan) (state_in c.run_to.new.worker) c.args.records.now.items c.run_to.new.records.items c.in_ok-run_to.ensures.came))
+    let worker = c.run_to.new.worker in
+    let same : state_in (record worker { f = c.clear_dirty.new.self }) ≡ state_in worker =
+    ap (λ (f : MarkedPages). state_in (record worker { f = f })) c.clear_dirty.ensures in
+    λ inner. same ∙ segment_state plan.checkpoints.rec (opened_of plan.checkpoints) c.args.j (state_in c.args.worker.now) c.recorded_count-upto.result is (tracers_of plan) (state_in c.run_to.new.worker) c.args.records.now.items c.run_to.new.records.items c.in_ok-run_to.ensures.came inner (sym (c.in_default.ensures ∙ segment_closes plan.checkpoints.rec (opened_of plan.checkpoints) c.args.j (state_in c.args.worker.now) c.recorded_count-upto.result is (tracers_of plan) (state_in c.run_to.new.worker) c.args.records.now.items c.run_to.new.records.items c.in_ok-run_to.ensures.came))
+
+pub break_at_checkpoint-requires-clause-holds : goal.break_at_checkpoint-requires-clause-holds
+break_at_checkpoint-requires-clause-holds g c =
+    let checkpoints = c.args.plan.now.checkpoints in
+    let opened = opened_of checkpoints in
+    let before : c.args.j + 1 - 1 ≡ c.args.j = omega arith in
+    let start = recorded-holds checkpoints.rec opened c.args.j c.args.worker.now.f checkpoints.opens (ap (λ s. s.pages) c.requires.at) in
+    subst (λ k. HoldsRecorded opened.pages checkpoints.rec k c.run_to.new.worker.f) (sym before)
+    (holds-goes_on opened.pages checkpoints.rec c.args.j c.args.worker.now.f c.run_to.new.worker.f start
+    c.in_ok-run_to.ensures.marks c.dirty_len-kept.ensures.kept.below)

@@ -1,4 +1,5 @@
-use Rattle.std.proofs.Common.{arith}
+use Rattle.std.proofs.Common.{arith, true}
+use Rattle.sl_model.proofs.MarksLaws.{MarksGoOn-then}
 use Rattle.replay.proofs.Calls.{HasCalls-value}
 use Rattle.epoch_run.specs.Plans.{tracers_of}
 use Rattle.epoch_run.proofs.Stretch.{goes_on_at, breaks_off}
@@ -19,6 +20,7 @@ loop-done-preserved g c =
       count = omega (arith, c.in_default.ensures.count, kept.count);
       fits = c.in_default.ensures.fits;
       from = omega (arith, kept.from);
+      marks = MarksGoOn-then true _ _ _ _ _ _ kept.marks c.in_default.ensures.marks;
       steps = omega (arith, kept.steps, c.in_default.ensures.counted);
     }
 

@@ -1,5 +1,6 @@
-use Rattle.std.proofs.Common.{◌≡◌, ◌+◌, ◌-◌, ◌≤◌}
+use Rattle.std.proofs.Common.{◌≡◌, ◌+◌, ◌-◌, ◌≤◌, true}
 use Rattle.sl_model.specs.State.{Fits}
+use Rattle.sl_model.specs.Marks.{MarksGoOn}
 use Rattle.epoch_run.specs.Segments.{IsUnderWay}
 use Rattle.epoch_run.specs.Plans.{tracers_of, state_in}
 use Rattle.epoch_run.proofs.segment.run_to.Given as goal
@@ -10,5 +11,6 @@ invariant-loop-done g l = record {
   count : l.worker.m.count ≡ l.done;
   fits : Fits (state_in l.worker);
   from : l.fn.worker.m.count ≤ l.done;
+  marks : MarksGoOn true l.fn.worker.f.pages l.fn.worker.f.dirty l.worker.f.pages l.worker.f.dirty;
   steps : l.steps + l.fn.worker.m.count ≤ l.fn.steps + l.done;
 }
