@@ -251,7 +251,13 @@ fn expect_told(
 {
     let (part, at, recorded, replayed) = told;
     let found = broke(k, part, at, recorded, replayed);
-    expect(rt, checkpoints, k, state, if part == 0 { None } else { found });
+    expect(
+        rt,
+        checkpoints,
+        k,
+        state,
+        if part == 0 { None } else { found },
+    );
 }
 
 #[test]

@@ -30,7 +30,7 @@ loop-left-preserved c =
       put = (
         pages ++ put.0,
         before-checkpoint rec c.args.k c.loop-left.left put.0 pages (omega arith) (omega (arith, c.loop-left.invariant.within, c.requires))
-        (c.as_slice.ensures ∙ ap (λ d. d.pages) c.checkpoint.ensures) put.1,
+            (c.as_slice.ensures ∙ ap (λ d. d.pages) c.checkpoint.ensures) put.1,
         c.put_pages.ensures c.args.frames.now.pages put.0 put.2,
       );
     }
