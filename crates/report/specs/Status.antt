@@ -9,6 +9,8 @@ use Rattle.rec_format.specs.declared.fault.RecCause.{RecCause}
 use Rattle.rec_format.specs.declared.fault.RecCause.TheVariants as rec_cause
 use Rattle.elf_image.specs.declared.fault.ImageCause.{ImageCause}
 use Rattle.elf_image.specs.declared.fault.ImageCause.TheVariants as image_cause
+use Rattle.asm_text.specs.declared.fault.AsmCause.{AsmCause}
+use Rattle.asm_text.specs.declared.fault.AsmCause.TheVariants as asm_cause
 use Rattle.report.specs.Report.{end_kind, end_value}
 use Rattle.report.specs.declared.status.Refusal.{Refusal}
 use Rattle.report.specs.declared.status.Refusal.TheVariants as refusal
@@ -24,6 +26,7 @@ refusal_code (refusal.RecordingBroken fault) = 4
 refusal_code (refusal.ImageBroken fault) = 5
 refusal_code (refusal.ReplayBroken first) = 8
 refusal_code (refusal.CheckpointDiffers first) = 9
+refusal_code (refusal.AsmRefused fault) = 13
 
 -- and after each ending
 abbrev pub code_of : Status → ℕ
@@ -64,6 +67,16 @@ image_cause_name image_cause.Interp = codes "Interp"
 image_cause_name image_cause.SegmentRange = codes "Segment range"
 image_cause_name image_cause.Overlap = codes "Overlap"
 image_cause_name image_cause.SymbolTable = codes "Symbol table"
+
+-- the name of a rule of sources that a line breaks
+abbrev pub asm_cause_name : AsmCause → List ℕ
+asm_cause_name asm_cause.Mnemonic = codes "Mnemonic"
+asm_cause_name asm_cause.Operand = codes "Operand"
+asm_cause_name asm_cause.Range = codes "Range"
+asm_cause_name asm_cause.UnknownLabel = codes "Unknown label"
+asm_cause_name asm_cause.DoubledLabel = codes "Doubled label"
+asm_cause_name asm_cause.Section = codes "Section"
+asm_cause_name asm_cause.TooLarge = codes "Too large"
 
 -- the line of a replay that broke at a count
 abbrev pub broken_line : ℕ → List (List ℕ) → List ℕ
@@ -137,6 +150,13 @@ refusal_line (refusal.ImageBroken fault) =
     ∷ [])
 refusal_line (refusal.ReplayBroken first) = break_line first.count first.kind
 refusal_line (refusal.CheckpointDiffers first) = break_line first.count first.kind
+refusal_line (refusal.AsmRefused fault) =
+    line_of
+    (codes "assembler refused at line "
+    ∷ decimal fault.line
+    ∷ codes ": "
+    ∷ asm_cause_name fault.cause
+    ∷ [])
 
 -- what stands on the second output, which is nothing after Ok
 abbrev pub fault_line : Status → List ℕ

@@ -3,12 +3,13 @@
 ghost use Rattle.std.specs.Prelude.{◌≡◌, ◌≤◌, map, OnErr};
 ghost use Rattle.std.specs.List.{flat_map};
 ghost use Rattle.sl_base.specs.Faults.{Rose};
-ghost use Rattle.report.specs.Status.{line_of, rec_cause_name, image_cause_name, break_line, refusal_line, fault_line};
+ghost use Rattle.report.specs.Status.{line_of, rec_cause_name, image_cause_name, asm_cause_name, break_line, refusal_line, fault_line};
 ghost use Rattle.report.specs.Pieces.{piece_text};
 ghost use Rattle.report.specs.Writing.{Writes};
 
 use crate::lines::{end_kind, end_value};
 use crate::status::{Refusal, Status};
+use asm_text::AsmCause;
 use call_log::{BreakKind, End};
 use elf_image::ImageCause;
 use rec_format::RecCause;
@@ -107,6 +108,21 @@ fn image_cause_name(cause: ImageCause) -> &'static str
         ImageCause::SegmentRange => "Segment range",
         ImageCause::Overlap => "Overlap",
         ImageCause::SymbolTable => "Symbol table",
+    }
+}
+
+/// The name of a rule of sources that a line breaks.
+fn asm_cause_name(cause: AsmCause) -> &'static str
+    ensures { result.now ≡ asm_cause_name cause }
+{
+    match cause {
+        AsmCause::Mnemonic => "Mnemonic",
+        AsmCause::Operand => "Operand",
+        AsmCause::Range => "Range",
+        AsmCause::UnknownLabel => "Unknown label",
+        AsmCause::DoubledLabel => "Doubled label",
+        AsmCause::Section => "Section",
+        AsmCause::TooLarge => "Too large",
     }
 }
 
@@ -254,6 +270,15 @@ fn write_refusal<O: Sink>(out: &mut O, why: &Refusal) -> Result<(), SinkFailed>
         Refusal::ReplayBroken(first) | Refusal::CheckpointDiffers(first) => {
             write_break(out, first.count, &first.kind)
         }
+        Refusal::AsmRefused(fault) => write_line(
+            out,
+            &[
+                Text("assembler refused at line "),
+                Index(fault.line),
+                Text(": "),
+                Text(asm_cause_name(fault.cause)),
+            ],
+        ),
     }
 }
 

@@ -1,5 +1,6 @@
 //! How a command ends.
 
+use asm_text::AsmFault;
 use call_log::Break;
 use elf_image::ImageFault;
 use rec_format::RecFault;
@@ -23,6 +24,8 @@ pub enum Refusal {
     ReplayBroken(Break),
     /// The replay first differs from the recording at a checkpoint.
     CheckpointDiffers(Break),
+    /// The text is no source of the assembler, by its first fault.
+    AsmRefused(AsmFault),
 }
 
 /// How a command ended. Each ending but `Ok` has one line on the second output.
@@ -56,6 +59,7 @@ impl Refusal {
             Refusal::ImageBroken(_) => 5,
             Refusal::ReplayBroken(_) => 8,
             Refusal::CheckpointDiffers(_) => 9,
+            Refusal::AsmRefused(_) => 13,
         }
     }
 }

@@ -1,5 +1,5 @@
 -- What a command comes to, from its words and the files: what it does, or why it is refused.
-use Rattle.std.specs.Prelude.{◌≡◌, ◌==◌, ◌&&◌, Bool, true, false, ℕ, List, [], ◌∷◌, length, codes, Option, Some, None, Result, Ok, Err, nat_lt, if◌then◌else◌}
+use Rattle.std.specs.Prelude.{◌≡◌, ◌==◌, ◌&&◌, Bool, true, false, ℕ, List, [], ◌∷◌, ◌++◌, length, codes, decimal, Option, Some, None, Result, Ok, Err, nat_lt, if◌then◌else◌}
 use Rattle.std.specs.Option.{option_and_then, unwrap_or}
 use Rattle.std.specs.Str.{bytes_eq}
 use Rattle.std.specs.FinMap.{get}
@@ -22,8 +22,10 @@ use Rattle.report.specs.declared.run_end.RunEnd.{RunEnd}
 use Rattle.report.specs.declared.status.Refusal.{Refusal}
 use Rattle.report.specs.declared.status.Refusal.TheVariants as refusal
 use Rattle.report.specs.Report.{all_lines, report, checked_line}
-use Rattle.cli_words.specs.Orders.{Order, TraceOptions, TraceAt, Replay, Check, Record, Show, order_of}
+use Rattle.cli_words.specs.Orders.{Order, TraceOptions, TraceAt, Replay, Check, Record, Asm, Show, order_of}
 use Rattle.sledge_top.specs.Done.{Done, only_text}
+use Rattle.elf_image.specs.Written.{written}
+use Rattle.rv_asm.specs.Assembly.{assembly}
 use Rattle.sledge_top.specs.Show.{show_lines}
 
 infixl 10 ◌>>=◌
@@ -156,6 +158,30 @@ show files name address lines flat = do
   image ← image_or_refusal flat bytes
   Ok (only_text (show_text image address lines))
 
+-- the most bytes of a source
+abbrev pub SOURCE_LIMIT : ℕ
+SOURCE_LIMIT = 1048576
+
+-- what the assembler says of a file of so many bytes
+abbrev pub assembled_line : ℕ → List ℕ
+assembled_line count = codes "assembled " ++ decimal count ++ codes " bytes" ++ 10 ∷ []
+
+-- the file of an image under a name, and the line that tells how long it is
+abbrev pub assembled : List ℕ → List ℕ → Done
+assembled name file =
+    record { text = assembled_line (length file); put = Some (record { name = name; bytes = file }) }
+
+-- the image of a source
+abbrev pub image_of_source : List ℕ → Result Image Refusal
+image_of_source source = refused_by refusal.AsmRefused (assembly source)
+
+-- `asm SOURCE OUTPUT`
+abbrev pub asm : Files → List ℕ → List ℕ → Result Done Refusal
+asm files source output = do
+  text ← file_of files source SOURCE_LIMIT
+  image ← image_of_source text
+  Ok (assembled output (written image))
+
 -- ---- all commands
 
 -- the analysis `all`, alone
@@ -172,6 +198,7 @@ is_built (TraceAt recording address options) = is_plain_trace options
 is_built (Replay recording) = true
 is_built (Check recording) = true
 is_built (Show image address lines flat) = true
+is_built (Asm source output) = true
 is_built other = false
 
 abbrev pub where_built : Order → Option Order
@@ -187,6 +214,7 @@ done_by files (TraceAt recording address options) = trace_at files recording add
 done_by files (Replay recording) = replay files recording
 done_by files (Check recording) = check files recording
 done_by files (Show image address lines flat) = show files image address lines flat
+done_by files (Asm source output) = asm files source output
 done_by files other = Err refusal.Usage
 
 abbrev pub ordered : Files → Option Order → Result Done Refusal

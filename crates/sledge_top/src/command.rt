@@ -11,6 +11,7 @@ ghost use Rattle.sledge_top.specs.Answer.{is_all, is_plain_trace, where_built, n
 ghost use Rattle.sledge_top.specs.Endings.{Ends, Says, IsSilent, Leaves};
 ghost use Rattle.sledge_top.specs.Views.{done_view, Comes};
 
+use crate::assemble::asm;
 use crate::done::{Done, finish};
 use crate::failure::Failure;
 use crate::show::show;
@@ -71,6 +72,7 @@ fn done_by<'a, S: Store>(
             lines,
             flat,
         } => show(alloc, image, *address, *lines, *flat, store),
+        Order::Asm { source, output } => asm(alloc, source, output, store),
         _ => Err(Failure::Refused(Refusal::Usage)),
     }
 }

@@ -1,6 +1,7 @@
 //! The commands of Sledgehammer, over any store, world, outputs and gate.
 #![tactic(auto)]
 
+mod assemble;
 mod command;
 mod done;
 mod failure;

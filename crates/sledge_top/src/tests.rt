@@ -1,5 +1,6 @@
 //! Commands over stores in memory, with outputs that were worked by hand.
 
+mod assembled;
 mod recordings;
 mod refusals;
 mod running;

@@ -14,3 +14,6 @@ returns-in-RecordingBroken-clause-written g c = rw (c.in-RecordingBroken.is, ←
 
 pub returns-in-ImageBroken-clause-written : goal.returns-in-ImageBroken-clause-written
 returns-in-ImageBroken-clause-written g c = rw (c.in-ImageBroken.is, ← c.image_cause_name.ensures) c.write_line-in-ImageBroken.ensures.written
+
+pub returns-in-AsmRefused-clause-written : goal.returns-in-AsmRefused-clause-written
+returns-in-AsmRefused-clause-written g c = rw (c.in-AsmRefused.is, ← c.asm_cause_name.ensures) c.write_line-in-AsmRefused.ensures.written
