@@ -6,7 +6,7 @@ use Rattle.tracepoints.specs.declared.filter.Filter.{Filter}
 
 -- the mark of an address is set
 abbrev pub is_marked : Filter → ℕ → Bool
-is_marked f address = slice_index_or f.marks (address / 4 % 1024) false
+is_marked f address = slice_index_or f.marks (address / 4 % 8192) false
 
 -- a point is passed over nowhere where it fires
 abbrev pub IsCaught : Filter → Point → Type 0

@@ -7,20 +7,20 @@ ghost use Rattle.tracepoints.specs.Filters.{IsCaught, may_fire};
 use tracer_lang::Point;
 
 /// How many marks there are.
-const MARKS: usize = 1024;
+const MARKS: usize = 8192;
 
 /// The places at which a tracepoint may fire: those whose mark is set, and all where a store is
 /// watched.
 #[derive(Drop)]
 pub(crate) struct Filter {
-    marks: [bool; 1024],
+    marks: [bool; 8192],
     stores: bool,
 }
 
 /// The mark of an address.
 #[inline(always)]
 fn mark_of(address: u32) -> usize
-    ensures { result ≡ address / 4 % 1024 }
+    ensures { result ≡ address / 4 % 8192 }
 {
     (address / 4) as usize % MARKS
 }
@@ -29,7 +29,7 @@ impl Filter {
     /// Nothing fires.
     pub(crate) fn new() -> Filter {
         Filter {
-            marks: [false; 1024],
+            marks: [false; 8192],
             stores: false,
         }
     }
