@@ -1,9 +1,8 @@
 -- What fires, as the code finds it.
-use Rattle.std.proofs.Common.{◌≡◌, ◌≢◌, ℕ, zero, suc, ◌+◌, ◌-◌, ◌<◌, ◌≤◌, ◌/◌, ◌%◌, Bool, true, false, cond, List, [], ◌∷◌, ◌++◌, length, map, Some, None, refl, arith, sym, ap, ◌∙◌, max}
+use Rattle.std.proofs.Common.{◌≡◌, ℕ, zero, suc, ◌+◌, ◌-◌, ◌<◌, ◌≤◌, ◌%◌, Bool, true, false, cond, List, [], ◌∷◌, ◌++◌, length, map, Some, None, refl, arith, sym, ap, ◌∙◌}
 use Rattle.std.specs.Prelude.{Option, IfSome, All, ◌==◌, ◌||◌, nat_lt, nat_le, slice_index_or}
 use Rattle.std.specs.List.{list_any, filter, range_with_len}
 use Rattle.std.proofs.lemmas.Bool.Decides.{nat_tests}
-use Rattle.std.proofs.lemmas.List.{get_or-map, length-map}
 use Rattle.std.proofs.lemmas.List.Folds.{list_any_at, list_any_none}
 use Rattle.std.proofs.lemmas.List.FromFn.{length-range_with_len, get_or-range_with_len}
 use Rattle.std.proofs.lemmas.List.Elements.{filter-append, All-tail}
@@ -21,7 +20,7 @@ use Rattle.tracer_lang.specs.declared.tree.Point.{Point}
 use Rattle.tracer_lang.specs.declared.tree.Point.TheVariants.{Addr, Enter, Store}
 use Rattle.tracer_lang.specs.declared.tree.Tracepoint.{Tracepoint}
 use Rattle.tracer_lang.specs.Tree.{TracepointTree, tracepoint_of}
-use Rattle.tracer_lang.specs.Firing.{is_among, stores_among, fires_at, fires, firing}
+use Rattle.tracer_lang.specs.Firing.{is_among, fires, firing}
 use Rattle.tracepoints.specs.declared.filter.Filter.{Filter}
 use Rattle.tracepoints.specs.Filters.{is_marked, IsCaught, may_fire}
 

@@ -1,5 +1,5 @@
 -- What holds of the fields of `Points`.
-use Rattle.std.specs.Prelude.{ℕ, ◌≤◌, length, All}
+use Rattle.std.specs.Prelude.{◌≤◌, length, All}
 use Rattle.tracer_lang.specs.Limits.{FitsPoint}
 use Rattle.tracepoints.specs.Filters.{IsCaught}
 use Rattle.tracepoints.specs.declared.points.Points.TheInside.{Inside}

@@ -1,4 +1,4 @@
-use Rattle.std.proofs.Common.{arith, refl, ◌≡◌, ◌<◌, ◌≤◌, ◌+◌}
+use Rattle.std.proofs.Common.{arith, refl, ◌<◌, ◌≤◌, ◌+◌}
 use Rattle.tracepoints.proofs.Firing.{begins_below, begins_above}
 use Rattle.tracepoints.proofs.points.overlaps.Goals as goal
 

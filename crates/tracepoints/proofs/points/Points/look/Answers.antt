@@ -1,4 +1,4 @@
-use Rattle.std.proofs.Common.{arith, ◌≡◌, ◌+◌, ◌++◌, ◌∷◌, [], true, false, length, sym, ap, ◌∙◌, length-append, append-nil}
+use Rattle.std.proofs.Common.{arith, ◌++◌, ◌∷◌, [], true, false, length, sym, ap, ◌∙◌, length-append, append-nil}
 use Rattle.rv_machine.specs.Machine.{state_of}
 use Rattle.tracepoints.proofs.Firing.{next_store-wide, firing_more}
 use Rattle.tracepoints.proofs.points.Points.look.Goals as goal

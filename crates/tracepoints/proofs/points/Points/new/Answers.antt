@@ -1,11 +1,10 @@
-use Rattle.std.proofs.Common.{arith, ◌≡◌, ◌≤◌, List, length, map, ap, sym, ◌∙◌}
+use Rattle.std.proofs.Common.{arith, ◌≡◌, ◌≤◌, length, map, ap, sym, ◌∙◌}
 use Rattle.std.specs.Prelude.{All}
 use Rattle.std.proofs.lemmas.List.{take_all, length-map}
 use Rattle.std.proofs.lemmas.List.Elements.{All-map}
-use Rattle.tracer_lang.specs.declared.tree.Point.{Point}
 use Rattle.tracer_lang.specs.declared.tree.Tracepoint.{Tracepoint}
 use Rattle.tracer_lang.specs.declared.script.Script.{Script}
-use Rattle.tracer_lang.specs.Tree.{TracepointTree, tracepoint_of}
+use Rattle.tracer_lang.specs.Tree.{TracepointTree}
 use Rattle.tracer_lang.specs.Limits.{FitsPoint}
 use Rattle.tracer_lang.specs.Script.{tree_of}
 use Rattle.tracer_lang.specs.Firing.{points_of}

@@ -1,4 +1,4 @@
-use Rattle.std.proofs.Common.{◌≡◌, List, map, take}
+use Rattle.std.proofs.Common.{◌≡◌, map, take}
 use Rattle.std.specs.Prelude.{All}
 use Rattle.tracer_lang.specs.declared.tree.Tracepoint.{Tracepoint}
 use Rattle.tracepoints.specs.Filters.{IsCaught}
