@@ -11,6 +11,7 @@ use Rattle.sl_base.specs.World.{IsAsked, read_number, write_number, getrandom_nu
 use Rattle.sl_model.specs.declared.run_state.RunState.{RunState}
 use Rattle.sl_model.specs.declared.run_state.RunState.TheVariants.{Running}
 use Rattle.sl_model.specs.Pages.{Pages, byte_at, bytes_at}
+use Rattle.sl_model.specs.Heap.{brk_answer}
 use Rattle.sl_model.specs.State.{State, Fits}
 use Rattle.sl_model.specs.Step.{Next, Stepped, Called, Trapped, step}
 use Rattle.call_log.specs.declared.ask.Ask.{Ask}
@@ -21,7 +22,7 @@ use Rattle.call_log.specs.Differences.{first_difference}
 use Rattle.rec_format.specs.declared.recording.Recording.{Recording}
 use Rattle.rec_format.specs.Rules.{IsCallEntry}
 use Rattle.rec_format.proofs.Fronts.{All-join}
-use Rattle.replay.specs.Calls.{call_of, is_exit, is_outside, buffer, room, brk_number, brk_answer, arg, fixed_result, given, ask_with, ask_of, data_done, call_done, brk_done, exited, answered}
+use Rattle.replay.specs.Calls.{call_of, is_exit, is_outside, buffer, room, brk_number, arg, fixed_result, given, ask_with, ask_of, data_done, call_done, brk_done, exited, answered}
 use Rattle.replay.specs.Run.{Goes, onward, run_from}
 use Rattle.replay.proofs.InRun.{Fits-onward}
 use Rattle.replay.proofs.Onward.{onward_stepped, onward_called, asked_exit, asked_due}
