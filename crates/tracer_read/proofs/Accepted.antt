@@ -1,17 +1,17 @@
 -- A text without a fault in the first pass has few nodes, and few lists within one another.
-use Rattle.std.proofs.Common.{◌≡◌, ◌≢◌, ◌<◌, ◌≤◌, ℕ, ◌+◌, ◌-◌, ◌==◌, ◌&&◌, ◌||◌, Bool, true, false, not, cond, max, List, [], ◌∷◌, length, take, ltb, slice_index, Option, Some, None, Result, Ok, Err, refl, sym, ap, subst, ◌∙◌, ⊎_elim, arith}
+use Rattle.std.proofs.Common.{◌≡◌, ◌≢◌, ◌≤◌, ℕ, ◌+◌, ◌-◌, ◌==◌, ◌&&◌, ◌||◌, Bool, true, false, not, cond, List, [], ◌∷◌, length, ltb, slice_index, Option, Some, None, Ok, refl, sym, ap, subst, ◌∙◌, ⊎_elim, arith}
 use Rattle.std.proofs.lemmas.Bool.{eq-eqb, false≢true, ltb-false}
 use Rattle.std.proofs.lemmas.List.{take_all, length-take}
 use Rattle.std.proofs.lemmas.Bool.Decides.{eqb_tells}
 use Rattle.tracer_text.specs.declared.fault.ScriptCause.{ScriptCause}
 use Rattle.tracer_text.specs.declared.fault.ScriptFault.{ScriptFault}
 use Rattle.tracer_text.specs.declared.token.Token.{Token}
-use Rattle.tracer_text.specs.FirstPass.{is_stray, cause_at, nodes_after, depth_after, fault_at_end, first_of, fault_from, read_part, fault_of, unless, first_pass}
+use Rattle.tracer_text.specs.FirstPass.{is_stray, cause_at, nodes_after, depth_after, first_of, fault_from, read_part, fault_of, unless, first_pass}
 use Rattle.tracer_text.specs.Tokens.{tokens_of}
 use Rattle.tracer_text.specs.Nodes as text_nodes
 use Rattle.tracer_text.specs.Nodes.{Tree, atom, list, Trees, no_trees, tree, Standing, before, nodes_from, rest_of}
 use Rattle.tracer_read.specs.Parts.{part_count}
-use Rattle.tracer_read.proofs.Sound.{tree_nodes, trees_nodes, tree_depth, trees_depth}
+use Rattle.tracer_read.proofs.Sound.{trees_nodes, trees_depth}
 
 abbrev outside_nodes : List Trees → ℕ
 outside_nodes [] = 0

@@ -1,5 +1,5 @@
 -- The function that is called, step by step.
-use Rattle.std.proofs.Common.{◌≡◌, ◌==◌, ℕ, not, Option, Some, None, Result, Ok, Err, refl, ap, ◌∙◌, slice_index}
+use Rattle.std.proofs.Common.{◌≡◌, ◌==◌, ℕ, not, Some, None, Result, Ok, Err, ap, ◌∙◌, slice_index}
 use Rattle.tracer_text.specs.declared.fault.ScriptCause.TheVariants as causes
 use Rattle.tracer_text.specs.declared.fault.ScriptFault.{ScriptFault}
 use Rattle.tracer_text.specs.declared.token.Token.{Token}

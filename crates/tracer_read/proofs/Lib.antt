@@ -11,3 +11,4 @@ mod SoundStatements
 mod Accepted
 mod SoundScripts
 mod Whole
+mod EachPart

@@ -1,5 +1,5 @@
 -- What fits some locals fits more of them.
-use Rattle.std.proofs.Common.{◌<◌, ◌≤◌, ℕ, List, arith}
+use Rattle.std.proofs.Common.{◌≤◌, ℕ, List, arith}
 use Rattle.tracer_lang.specs.Tree.{Expression, number, local, register, program_counter, load, operation, is_zero, call, system_call, Arguments, no_arguments, argument, Statement, emit, set, block, choice, while, store, return, stop, run, Statements, no_statements, statement}
 use Rattle.tracer_lang.specs.Limits.{FitsExpression, FitsArguments, FitsStatement, FitsStatements}
 

@@ -1,5 +1,5 @@
 -- The first place in a list that is seen by a view.
-use Rattle.std.proofs.Common.{◌≡◌, ◌<◌, ℕ, zero, suc, ◌+◌, Bool, not, cond, List, [], ◌∷◌, map, length, ltb, get_or, Option, Some, None, refl, sym, ap, subst, ◌∙◌, arith}
+use Rattle.std.proofs.Common.{◌≡◌, ◌<◌, ℕ, zero, suc, ◌+◌, Bool, not, cond, List, [], ◌∷◌, map, length, ltb, get_or, Some, None, refl, sym, ap, subst, ◌∙◌, arith}
 use Rattle.std.specs.Str.{bytes_eq}
 use Rattle.tracer_text.specs.declared.token.Token.{Token}
 use Rattle.tracer_text.specs.Nodes.{trees_of}
@@ -7,7 +7,7 @@ use Rattle.tracer_read.specs.declared.context.Signature.{Signature}
 use Rattle.tracer_read.specs.Parts.{spelling, name_index, part_count}
 use Rattle.tracer_read.specs.Expressions.{Callee, callee_names, parameter_counts}
 use Rattle.tracer_read.specs.Views.{callee_of}
-use Rattle.std.specs.List.{prefix_len, position_or_len, position}
+use Rattle.std.specs.List.{prefix_len, position}
 use Rattle.std.proofs.lemmas.List.{length-map}
 
 prefix_len-map : {X Y : Type 0} (p : Y → Bool) (f : X → Y) (xs : List X)

@@ -1,12 +1,12 @@
 -- Refusals and values of steps, one after the other.
-use Rattle.std.proofs.Common.{◌≡◌, List, [], ◌∷◌, ◌++◌, map, Result, Ok, Err, refl, sym, ap, subst, ◌∙◌}
+use Rattle.std.proofs.Common.{◌≡◌, List, [], ◌∷◌, ◌++◌, map, Result, Ok, Err, refl, sym, ap, subst}
 use Rattle.sl_base.specs.declared.refused.Refused.{Refused}
 use Rattle.sl_base.specs.declared.refused.Refused.TheVariants.{Fault, Memory}
 use Rattle.sl_base.specs.Refusals.{Fails}
 use Rattle.tracer_text.specs.declared.fault.ScriptFault.{ScriptFault}
 use Rattle.tracer_lang.specs.declared.tree.Expr.{Expr}
 use Rattle.tracer_lang.specs.declared.tree.Stmt.{Stmt}
-use Rattle.tracer_lang.specs.Tree.{Expression, Arguments, argument, expression_of, Statement, Statements, statement, statement_of}
+use Rattle.tracer_lang.specs.Tree.{Expression, Arguments, argument, expression_of, Statements, statement, statement_of}
 use Rattle.tracer_read.specs.Fronts.{arguments_before, statements_before}
 use Rattle.tracer_text.specs.declared.token.Token.{Token}
 use Rattle.tracer_read.specs.Parts.{◌>>=◌}

@@ -1,5 +1,5 @@
 -- The nodes after one in a list are less deep than the list.
-use Rattle.std.proofs.Common.{◌≡◌, ◌≤◌, ◌<◌, Box, Global, ap, arith}
+use Rattle.std.proofs.Common.{◌≡◌, ◌<◌, Box, Global, ap, arith}
 use denote.Hole.Carrier.{out}
 use denote.Hole.Rolled.{depth_falls}
 use Rattle.tracer_text.specs.declared.node.Node.{Node}

@@ -1,5 +1,5 @@
 -- Numbers of scripts are words, and places of names are within.
-use Rattle.std.proofs.Common.{◌≡◌, ◌<◌, ◌≤◌, ℕ, suc, ◌+◌, ◌-◌, ◌*◌, ◌%◌, ◌^◌, ◌&&◌, cond, ltb, leb, nat_eq, List, [], ◌∷◌, length, drop, Option, Some, None, IfSome, arith}
+use Rattle.std.proofs.Common.{◌<◌, ◌≤◌, ℕ, suc, ◌+◌, ◌-◌, ◌*◌, ◌%◌, ◌^◌, ◌&&◌, cond, ltb, leb, nat_eq, List, [], ◌∷◌, length, drop, Option, Some, None, IfSome, arith}
 use Rattle.std.specs.Prelude.{codes, Bool}
 use Rattle.std.specs.Char.{digit_value}
 use Rattle.std.specs.List.{position, position_or_len, starts_with}

@@ -1,5 +1,5 @@
 -- Steps that may fail, and what holds where they don't.
-use Rattle.std.proofs.Common.{◌≡◌, ◌<◌, ◌≤◌, ℕ, ◌&&◌, Bool, true, false, not, cond, max, ◌+◌, List, [], ◌∷◌, Option, Some, None, Result, Ok, Err, IfOk, IfSome, refl}
+use Rattle.std.proofs.Common.{◌≡◌, ℕ, ◌&&◌, Bool, true, false, not, cond, max, ◌+◌, Option, Some, None, Result, Ok, Err, IfOk, IfSome, refl}
 use Rattle.tracer_text.specs.declared.fault.ScriptCause.{ScriptCause}
 use Rattle.tracer_text.specs.declared.fault.ScriptFault.{ScriptFault}
 use Rattle.tracer_text.specs.Nodes.{Tree, atom, list, Trees, no_trees, tree}

@@ -1,11 +1,10 @@
 -- Expressions keep the limits of scripts.
-use Rattle.std.proofs.Common.{◌≡◌, ◌<◌, ◌≤◌, ℕ, ◌+◌, ◌^◌, ◌==◌, ◌&&◌, Bool, true, false, not, max, leb, List, [], ◌∷◌, length, drop, map, slice_index, Option, Some, None, Result, Ok, Err, IfOk, IfSome, refl, sym, ap, subst, ◌∙◌, arith}
+use Rattle.std.proofs.Common.{◌≡◌, ◌<◌, ◌≤◌, ℕ, ◌+◌, ◌^◌, ◌==◌, ◌&&◌, not, max, leb, List, length, drop, slice_index, Option, Some, None, Ok, Err, IfOk, IfSome, refl, sym, ap, ◌∙◌, arith}
 use Rattle.std.proofs.lemmas.Bool.{eqb-true, leb-true}
 use Rattle.std.proofs.lemmas.List.{length-map}
 use Rattle.sl_base.specs.declared.symbol.Symbol.{Symbol}
-use Rattle.tracer_lang.specs.Tree.{Expression, number, local, register, program_counter, load, operation, is_zero, call, system_call, Arguments, no_arguments, argument}
+use Rattle.tracer_lang.specs.Tree.{Expression, number, local, register, program_counter, Arguments}
 use Rattle.tracer_lang.specs.Limits.{FitsExpression, FitsArguments, argument_count, expression_nodes, arguments_nodes, expression_depth, arguments_depth}
-use Rattle.tracer_text.specs.declared.fault.ScriptFault.{ScriptFault}
 use Rattle.tracer_text.specs.declared.fault.ScriptCause.TheVariants as causes
 use Rattle.tracer_text.specs.FirstPass.{fault}
 use Rattle.tracer_text.specs.declared.token.Token.{Token}
@@ -14,8 +13,8 @@ use Rattle.tracer_read.specs.declared.heads.ExpressionHead.{ExpressionHead}
 use Rattle.tracer_read.specs.declared.heads.ExpressionHead.TheVariants.{Sym, Reg, Pc, Not, Call, Sys, Load, Operation}
 use Rattle.tracer_read.specs.Numbers.{is_number, number_value}
 use Rattle.tracer_read.specs.Heads.{expression_head}
-use Rattle.tracer_read.specs.Parts.{◌>>=◌, or_fault, unless, spelling, place_of, word_of, number_of, number_within, name_index, symbol_value, symbol_of, no_part, only_part, part_count, one, two}
-use Rattle.tracer_read.specs.Expressions.{Callee, Around, head, value, all, callee_names, parameter_counts, called, expression, expressions, expression_form}
+use Rattle.tracer_read.specs.Parts.{◌>>=◌, or_fault, spelling, place_of, word_of, number_of, number_within, name_index, symbol_value, symbol_of, no_part, only_part, part_count, one, two}
+use Rattle.tracer_read.specs.Expressions.{Around, head, value, all, callee_names, parameter_counts, called, expression, expressions, expression_form}
 use Rattle.tracer_read.proofs.Sound.{tree_nodes, trees_nodes, tree_depth, trees_depth, IfOk-bind, IfOk-then, IfOk-unless, IfOk-or_fault, IfOk-weaker, IfOk-cond, both_true, not_false}
 use Rattle.tracer_read.proofs.SmallNumbers.{number_value-small, position-below}
 

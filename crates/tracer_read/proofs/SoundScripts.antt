@@ -1,5 +1,5 @@
 -- Scripts keep their limits.
-use Rattle.std.proofs.Common.{◌≡◌, ◌≢◌, ◌<◌, ◌≤◌, ℕ, ◌+◌, ◌%◌, ◌^◌, ◌==◌, ◌&&◌, false, true, not, leb, max, List, [], ◌∷◌, ◌++◌, length, map, sum, All, Option, Some, None, Result, Ok, Err, IfOk, IfSome, refl, sym, ap, subst, ◌∙◌, append_assoc, arith}
+use Rattle.std.proofs.Common.{◌≡◌, ◌≢◌, ◌<◌, ◌≤◌, ℕ, ◌+◌, ◌%◌, ◌^◌, ◌==◌, ◌&&◌, not, leb, List, [], ◌∷◌, ◌++◌, length, map, sum, All, Option, Some, None, Ok, IfOk, IfSome, refl, sym, ap, subst, ◌∙◌, append_assoc, arith}
 use Rattle.std.specs.Prelude.{is_some, option_to_list, unwrap_or}
 use Rattle.std.specs.Str.{bytes_eq}
 use Rattle.sl_base.specs.declared.symbol.Symbol.{Symbol}
@@ -8,13 +8,10 @@ use Rattle.std.proofs.lemmas.Bool.{eq-eqb, false≢true, leb-true}
 use Rattle.std.proofs.lemmas.List.{length_push, map-append, append-nil}
 use Rattle.std.proofs.lemmas.List.Elements.{All-append, All-cons, All-nil}
 use Rattle.std.proofs.lemmas.List.Sums.{sum_by_push}
-use Rattle.tracer_lang.specs.declared.tree.Point.{Point}
 use Rattle.tracer_lang.specs.declared.tree.Point.TheVariants as points
-use Rattle.tracer_lang.specs.Tree.{Statements, FunctionTree, TracepointTree, ScriptTree}
-use Rattle.tracer_lang.specs.Limits as limits
-use Rattle.tracer_lang.specs.Limits.{FitsBody, FitsFunction, FitsPoint, FitsTracepoint, IsWithinLimits, statements_nodes, statements_depth}
+use Rattle.tracer_lang.specs.Tree.{FunctionTree, TracepointTree}
+use Rattle.tracer_lang.specs.Limits.{FitsFunction, FitsPoint, FitsTracepoint, IsWithinLimits, statements_nodes}
 use Rattle.tracer_text.specs.declared.fault.ScriptCause.TheVariants as causes
-use Rattle.tracer_text.specs.declared.fault.ScriptFault.{ScriptFault}
 use Rattle.tracer_text.specs.declared.token.Token.{Token}
 use Rattle.tracer_text.specs.Nodes.{Tree, atom, list, Trees, no_trees, tree}
 use Rattle.tracer_read.specs.declared.heads.ItemHead.{ItemHead}
@@ -22,10 +19,10 @@ use Rattle.tracer_read.specs.declared.heads.ItemHead.TheVariants.{Budget, Def, A
 use Rattle.tracer_read.specs.declared.heads.PointHead.{PointHead}
 use Rattle.tracer_read.specs.declared.heads.PointHead.TheVariants.{Addr, Enter, Store}
 use Rattle.tracer_read.specs.Heads.{named, item_names, point_names}
-use Rattle.tracer_read.specs.Parts.{◌>>=◌, unless, place_of, word_of, number_of, number_within, name_index, new_name, new_local, symbol_value, symbol_of, only_part, two_parts, part_count}
+use Rattle.tracer_read.specs.Parts.{◌>>=◌, place_of, word_of, number_of, number_within, new_name, new_local, symbol_value, symbol_of, only_part, two_parts, part_count}
 use Rattle.tracer_read.specs.Expressions.{Callee, Around, head, parameter_counts}
 use Rattle.tracer_read.specs.Statements.{in_order, steps_of}
-use Rattle.tracer_read.specs.Scripts.{is_def, callee_named, callee_from, callee_if, callee_at, callees, Draft, budget_form, parameters_of, parameter_list, def_form, store_point, point_form, point_of, at_form, item_form, item, items, nothing, script_from, surroundings}
+use Rattle.tracer_read.specs.Scripts.{is_def, callee_named, callee_from, callee_if, callee_at, callees, Draft, budget_form, parameters_of, def_form, store_point, point_form, point_of, at_form, item_form, item, items, nothing, script_from, surroundings}
 use Rattle.tracer_read.proofs.Sound.{tree_nodes, trees_nodes, tree_depth, trees_depth, IfOk-bind, IfOk-then, IfOk-unless, IfOk-weaker, IfSome-cond, both_true, not_false}
 use Rattle.tracer_read.proofs.Accepted.{Small}
 use Rattle.tracer_read.proofs.SoundExpressions.{AreWords, number_of-small, number_within-within, symbol_of-small}

@@ -1,10 +1,10 @@
 -- Statements keep the limits of scripts.
-use Rattle.std.proofs.Common.{◌≡◌, ◌<◌, ◌≤◌, ℕ, ◌+◌, ◌==◌, false, max, List, [], ◌∷◌, ◌++◌, length, Option, Some, None, Result, Ok, Err, IfOk, IfSome, refl, sym, ◌∙◌, arith}
+use Rattle.std.proofs.Common.{◌≡◌, ◌<◌, ◌≤◌, ℕ, ◌+◌, ◌==◌, List, [], ◌∷◌, ◌++◌, length, Option, Some, None, Ok, IfOk, sym, ◌∙◌, arith}
 use Rattle.std.proofs.lemmas.Bool.{eq-eqb, false≢true}
 use Rattle.std.proofs.lemmas.List.{length_push}
 use Rattle.std.specs.Prelude.{is_some}
-use Rattle.tracer_lang.specs.Tree.{Expression, Statement, emit, set, block, choice, while, store, return, stop, run, Statements, no_statements, statement}
-use Rattle.tracer_lang.specs.Limits.{FitsExpression, FitsStatement, FitsStatements, statement_nodes, statements_nodes, statement_depth, statements_depth}
+use Rattle.tracer_lang.specs.Tree.{Statement, Statements}
+use Rattle.tracer_lang.specs.Limits.{FitsStatement, FitsStatements, statement_nodes, statements_nodes, statement_depth, statements_depth}
 use Rattle.tracer_text.specs.declared.fault.ScriptCause.TheVariants as causes
 use Rattle.tracer_text.specs.declared.token.Token.{Token}
 use Rattle.tracer_text.specs.Nodes.{Tree, atom, list, Trees, no_trees, tree}
@@ -12,7 +12,7 @@ use Rattle.tracer_read.specs.declared.heads.ValueHead.TheVariants.{Emit, Return,
 use Rattle.tracer_read.specs.declared.heads.StatementHead.{StatementHead}
 use Rattle.tracer_read.specs.declared.heads.StatementHead.TheVariants.{Var, Set, Do, If, While, Store, Value}
 use Rattle.tracer_read.specs.Heads.{statement_head}
-use Rattle.tracer_read.specs.Parts.{◌>>=◌, or_fault, unless, word_of, name_index, new_name, new_local, two_parts, one, two}
+use Rattle.tracer_read.specs.Parts.{or_fault, word_of, name_index, new_name, new_local, two_parts, one, two}
 use Rattle.tracer_read.specs.Expressions.{Around, head, parameter_counts, expression, expressions}
 use Rattle.tracer_read.specs.Statements.{in_order, var_form, set_form, if_form, while_form, statement_form, step_of, steps_of}
 use Rattle.tracer_read.proofs.Sound.{tree_nodes, trees_nodes, tree_depth, trees_depth, IfOk-bind, IfOk-then, IfOk-unless, IfOk-or_fault, IfOk-weaker}

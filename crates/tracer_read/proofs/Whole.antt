@@ -1,5 +1,5 @@
 -- Both passes, one after the other.
-use Rattle.std.proofs.Common.{◌≡◌, List, ℕ, Result, Ok, Err, IfOk, sym, ap, subst, ◌∙◌}
+use Rattle.std.proofs.Common.{◌≡◌, List, ℕ, Result, Ok, IfOk, sym, ap, subst, ◌∙◌}
 use Rattle.sl_base.specs.declared.refused.Refused.{Refused}
 use Rattle.sl_base.specs.declared.symbol.Symbol.{Symbol}
 use Rattle.sl_base.specs.Refusals.{Fails}

@@ -1,12 +1,12 @@
 -- What expressions give: a tree, or the first fault.
-use Rattle.std.specs.Prelude.{ℕ, ◌+◌, ◌==◌, not, List, [], ◌∷◌, length, drop, map, slice_index, Option, Some, None, Result, Ok, Err, if◌then◌else◌}
+use Rattle.std.specs.Prelude.{ℕ, ◌==◌, not, List, [], ◌∷◌, drop, map, slice_index, Option, Some, None, Result, Ok, Err, if◌then◌else◌}
 use Rattle.sl_base.specs.declared.symbol.Symbol.{Symbol}
 use Rattle.tracer_lang.specs.Tree.{Expression, number, local, register, program_counter, load, operation, is_zero, call, system_call, Arguments, no_arguments, argument}
 use Rattle.tracer_text.specs.declared.fault.ScriptCause.TheVariants as causes
 use Rattle.tracer_text.specs.declared.fault.ScriptFault.{ScriptFault}
 use Rattle.tracer_text.specs.declared.token.Token.{Token}
 use Rattle.tracer_text.specs.FirstPass.{fault}
-use Rattle.tracer_text.specs.Nodes.{Tree, atom, list, Trees, no_trees, tree, trees_of}
+use Rattle.tracer_text.specs.Nodes.{Tree, atom, list, Trees, no_trees, tree}
 use Rattle.tracer_read.specs.declared.heads.ExpressionHead.{ExpressionHead}
 use Rattle.tracer_read.specs.declared.heads.ExpressionHead.TheVariants.{Sym, Reg, Pc, Not, Call, Sys, Load, Operation}
 use Rattle.tracer_read.specs.Numbers.{is_number}
@@ -34,7 +34,10 @@ abbrev pub value : Around → List Token → Token → Result Expression ScriptF
 value around locals token =
     if is_number (spelling around.text token)
     then (number_of around.text (atom token) >>= λ n. Ok (number n))
-    else (or_fault token.place causes.NameUnknown (name_index around.text locals token) >>= λ index. Ok (local index))
+    else (
+    or_fault token.place causes.NameUnknown (name_index around.text locals token) >>= λ index.
+    Ok (local index)
+    )
 
 -- all parts in order
 abbrev pub all : List (Result Expression ScriptFault) → Result Arguments ScriptFault
@@ -52,16 +55,21 @@ callee_names callees = map (λ (callee : Callee). callee.name) callees
 abbrev pub parameter_counts : List Callee → List ℕ
 parameter_counts callees = map (λ (callee : Callee). callee.parameters) callees
 
--- the number of the function that is called, which has as many parameters as parts stand behind its name
+-- The number of the function that is called. It has as many parameters as parts stand behind its
+-- name.
 abbrev pub called : Around → ℕ → Trees → Result ℕ ScriptFault
 called around place no_trees = Err (fault place causes.Arity)
 called around place (tree f arguments) = do
   token ← word_of around.text f
-  index ← or_fault token.place causes.NameUnknown (name_index around.text (callee_names around.callees) token)
-  unless (not (part_count arguments == slice_index (parameter_counts around.callees) index)) place causes.Arity (Ok index)
+  index ← or_fault token.place causes.NameUnknown (
+      name_index around.text (callee_names around.callees) token
+      )
+  unless (not (part_count arguments == slice_index (parameter_counts around.callees) index))
+      place causes.Arity (Ok index)
 
 -- a list with these parts behind its head, which give these as expressions
-abbrev pub expression_form : Around → ℕ → Trees → List (Result Expression ScriptFault) → Option ExpressionHead → Result Expression ScriptFault
+abbrev pub expression_form : Around → ℕ → Trees → List (Result Expression ScriptFault)
+    → Option ExpressionHead → Result Expression ScriptFault
 expression_form around place parts xs None = Err (fault place causes.Form)
 expression_form around place parts xs (Some Pc) = no_part place parts program_counter
 expression_form around place parts xs (Some Reg) = do
@@ -95,8 +103,10 @@ abbrev mutual
   expression around locals (atom token) = value around locals token
   expression around locals (list place no_trees) = Err (fault place causes.Form)
   expression around locals (list place (tree first parts)) =
-      expression_form around place parts (expressions around locals parts) (head expression_head around.text first)
+      expression_form around place parts (expressions around locals parts)
+      (head expression_head around.text first)
 
   pub expressions : Around → List Token → Trees → List (Result Expression ScriptFault)
   expressions around locals no_trees = []
-  expressions around locals (tree first rest) = expression around locals first ∷ expressions around locals rest
+  expressions around locals (tree first rest) =
+      expression around locals first ∷ expressions around locals rest

@@ -128,4 +128,8 @@ abbrev pub item_names : List (List ℕ × ItemHead)
 item_names = (codes "budget", Budget) ∷ (codes "def", Def) ∷ (codes "at", At) ∷ []
 
 abbrev pub point_names : List (List ℕ × PointHead)
-point_names = (codes "addr", points.Addr) ∷ (codes "enter", points.Enter) ∷ (codes "store", points.Store) ∷ []
+point_names =
+    (codes "addr", points.Addr)
+    ∷ (codes "enter", points.Enter)
+    ∷ (codes "store", points.Store)
+    ∷ []

@@ -7,3 +7,4 @@ pub mod Views
 pub mod Statements
 pub mod Scripts
 pub mod Drafts
+pub mod Laws

@@ -7,7 +7,8 @@ use Rattle.std.specs.Option.{option_and_then}
 abbrev pub is_digit : ℕ → Bool
 is_digit c = nat_le 48 c && nat_le c 57
 
--- a token is a number where it begins with a digit, or with a minus sign and a digit; else it is a word
+-- a token is a number where it begins with a digit, or with a minus sign and a digit; else it is a
+-- word
 abbrev pub is_number : List ℕ → Bool
 is_number [] = false
 is_number (c ∷ []) = is_digit c
@@ -22,7 +23,9 @@ number_from base n (c ∷ cs) =
 -- the number of at least one and at most so many digits of a base
 abbrev pub digits_value : ℕ → ℕ → List ℕ → Option ℕ
 digits_value base most digits =
-    if nat_le 1 (length digits) && nat_le (length digits) most then number_from base 0 digits else None
+    if nat_le 1 (length digits) && nat_le (length digits) most
+    then number_from base 0 digits
+    else None
 
 abbrev pub hex_value : List ℕ → Option ℕ
 hex_value digits = digits_value 16 8 digits
@@ -41,8 +44,8 @@ where_negative n = if nat_le n (2 ^ 31) then Some ((2 ^ 32 - n) % 2 ^ 32) else N
 abbrev pub negative_value : List ℕ → Option ℕ
 negative_value digits = option_and_then where_negative (digits_value 10 10 digits)
 
--- The value of a number: `0x` and one to eight hexadecimal digits, or one to ten decimal digits, which a minus sign may
--- precede. None where it is malformed.
+-- The value of a number: `0x` and one to eight hexadecimal digits, or one to ten decimal digits,
+-- which a minus sign may precede. None where it is malformed.
 abbrev pub number_value : List ℕ → Option ℕ
 number_value word =
     if starts_with nat_eq word (codes "0x") then hex_value (drop 2 word)

@@ -3,7 +3,7 @@ use Rattle.std.specs.Prelude.{ℕ, ◌+◌, ◌%◌, ◌^◌, ◌==◌, ◌&&◌
 use Rattle.std.specs.Str.{bytes_eq}
 use Rattle.sl_base.specs.declared.symbol.Symbol.{Symbol}
 use Rattle.tracer_text.specs.declared.fault.ScriptCause.{ScriptCause}
-use Rattle.tracer_text.specs.declared.fault.ScriptCause.TheVariants.{Form, NameUnknown, NameDoubled, Arity, Number, SymbolUnknown, TooLarge}
+use Rattle.tracer_text.specs.declared.fault.ScriptCause.TheVariants.{Form, NameDoubled, Arity, Number, SymbolUnknown, TooLarge}
 use Rattle.tracer_text.specs.declared.fault.ScriptFault.{ScriptFault}
 use Rattle.tracer_text.specs.declared.token.Token.{Token}
 use Rattle.tracer_text.specs.FirstPass.{fault}
@@ -11,7 +11,8 @@ use Rattle.tracer_text.specs.Nodes.{Tree, atom, list, Trees, no_trees, tree}
 use Rattle.tracer_read.specs.Numbers.{is_number, number_value}
 
 infixl 10 ◌>>=◌
-abbrev pub ◌>>=◌ : {A B : Type 0} → Result A ScriptFault → (A → Result B ScriptFault) → Result B ScriptFault
+abbrev pub ◌>>=◌ : {A B : Type 0}
+    → Result A ScriptFault → (A → Result B ScriptFault) → Result B ScriptFault
 (Ok x) >>= f = f x
 (Err e) >>= f = Err e
 
@@ -21,7 +22,8 @@ or_fault place cause (Some x) = Ok x
 or_fault place cause None = Err (fault place cause)
 
 -- nothing more, or a fault where a rule is broken
-abbrev pub unless : {A : Type 0} → Bool → ℕ → ScriptCause → Result A ScriptFault → Result A ScriptFault
+abbrev pub unless : {A : Type 0}
+    → Bool → ℕ → ScriptCause → Result A ScriptFault → Result A ScriptFault
 unless broken place cause more = if broken then Err (fault place cause) else more
 
 -- ---- tokens
@@ -42,7 +44,8 @@ word_of text (list place trees) = Err (fault place Form)
 -- a number's value, in a place that takes a number
 abbrev pub number_of : List ℕ → Tree → Result ℕ ScriptFault
 number_of text (atom token) =
-    if is_number (spelling text token) then or_fault token.place Number (number_value (spelling text token))
+    if is_number (spelling text token)
+    then or_fault token.place Number (number_value (spelling text token))
     else Err (fault token.place Form)
 number_of text (list place trees) = Err (fault place Form)
 
@@ -56,12 +59,14 @@ number_within least most text t = do
 
 -- the number of the first of these names that is spelled as a token
 abbrev pub name_index : List ℕ → List Token → Token → Option ℕ
-name_index text names token = position (λ name. bytes_eq (spelling text name) (spelling text token)) names
+name_index text names token =
+    position (λ name. bytes_eq (spelling text name) (spelling text token)) names
 
 -- a new name behind the others
 abbrev pub new_name : List ℕ → List Token → Token → Result (List Token) ScriptFault
 new_name text names token =
-    unless (is_some (name_index text names token)) token.place NameDoubled (Ok (names ++ token ∷ []))
+    unless (is_some (name_index text names token)) token.place NameDoubled
+    (Ok (names ++ token ∷ []))
 
 -- a new local or parameter of a body, which has at most 16
 abbrev pub new_local : List ℕ → List Token → Token → Result (List Token) ScriptFault

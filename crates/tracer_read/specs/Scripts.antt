@@ -1,10 +1,10 @@
 -- What a text gives: a script, or its first fault.
-use Rattle.std.specs.Prelude.{ℕ, ◌+◌, ◌^◌, ◌==◌, ◌&&◌, not, Bool, true, false, nat_le, List, [], ◌∷◌, ◌++◌, length, Option, Some, None, is_some, unwrap_or, option_to_list, Result, Ok, Err, if◌then◌else◌}
+use Rattle.std.specs.Prelude.{ℕ, ◌+◌, ◌^◌, ◌==◌, ◌&&◌, not, Bool, true, false, nat_le, List, [], ◌∷◌, ◌++◌, length, Option, Some, None, is_some, unwrap_or, option_to_list, Result, Ok, Err}
 use Rattle.std.specs.Result.{result_ok}
 use Rattle.sl_base.specs.declared.symbol.Symbol.{Symbol}
 use Rattle.tracer_lang.specs.declared.tree.Point.{Point}
 use Rattle.tracer_lang.specs.declared.tree.Point.TheVariants as points
-use Rattle.tracer_lang.specs.Tree.{Statements, FunctionTree, TracepointTree, ScriptTree}
+use Rattle.tracer_lang.specs.Tree.{FunctionTree, TracepointTree, ScriptTree}
 use Rattle.tracer_text.specs.declared.fault.ScriptCause.TheVariants as causes
 use Rattle.tracer_text.specs.declared.fault.ScriptFault.{ScriptFault}
 use Rattle.tracer_text.specs.declared.token.Token.{Token}
@@ -26,12 +26,14 @@ is_def (Some Def) = true
 is_def other = false
 
 abbrev pub callee_named : Trees → Option Token → Option Callee
-callee_named parameters (Some name) = Some (record { name = name; parameters = part_count parameters })
+callee_named parameters (Some name) =
+    Some (record { name = name; parameters = part_count parameters })
 callee_named parameters None = None
 
 -- a name, and the list of the parameters
 abbrev pub callee_from : List ℕ → Trees → Option Callee
-callee_from text (tree f (tree (list place parameters) body)) = callee_named parameters (result_ok (word_of text f))
+callee_from text (tree f (tree (list place parameters) body)) =
+    callee_named parameters (result_ok (word_of text f))
 callee_from text parts = None
 
 abbrev pub callee_if : Bool → Option Callee → Option Callee

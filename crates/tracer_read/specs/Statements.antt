@@ -72,7 +72,8 @@ value_statement Stop e = stop e
 value_statement Run e = run e
 
 -- a list with these parts behind its head, which are these steps
-abbrev pub statement_form : Around → ℕ → Trees → List Step → List Token → Option StatementHead → Reading Statement
+abbrev pub statement_form : Around → ℕ → Trees → List Step → List Token → Option StatementHead
+    → Reading Statement
 statement_form around place parts steps locals None = Err (fault place causes.Form)
 statement_form around place parts steps locals (Some Var) = var_form around place parts locals
 statement_form around place parts steps locals (Some Set) = set_form around place parts locals
@@ -96,7 +97,8 @@ abbrev mutual
   step_of around (atom token) locals = Err (fault token.place causes.Form)
   step_of around (list place no_trees) locals = Err (fault place causes.Form)
   step_of around (list place (tree first parts)) locals =
-      statement_form around place parts (steps_of around parts) locals (head statement_head around.text first)
+      statement_form around place parts (steps_of around parts) locals
+      (head statement_head around.text first)
 
   pub steps_of : Around → Trees → List Step
   steps_of around no_trees = []

@@ -1,5 +1,5 @@
 -- What the reader keeps of a script while it reads.
-use Rattle.std.specs.Prelude.{List, map}
+use Rattle.std.specs.Prelude.{map}
 use Rattle.tracer_text.specs.Nodes.{trees_of}
 use Rattle.tracer_read.specs.declared.context.Signature.{Signature}
 use Rattle.tracer_read.specs.declared.context.Context.{Context}

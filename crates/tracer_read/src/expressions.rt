@@ -89,7 +89,8 @@ fn read_register(
     parts: &Nodes,
 ) -> Result<Expr, Refused<ScriptFault>>
     ensures { Gives expression_of result
-        (expression_form (around context.now) place (trees_of parts.now) [] (Some ExpressionHead.Reg)) }
+        (expression_form (around context.now) place (trees_of parts.now) []
+        (Some ExpressionHead.Reg)) }
 {
     let node = only_part(place, parts)?;
     let index = number_within(0, 31, context.text, node)?;
@@ -103,7 +104,8 @@ fn read_symbol(
     parts: &Nodes,
 ) -> Result<Expr, Refused<ScriptFault>>
     ensures { Gives expression_of result
-        (expression_form (around context.now) place (trees_of parts.now) [] (Some ExpressionHead.Sym)) }
+        (expression_form (around context.now) place (trees_of parts.now) []
+        (Some ExpressionHead.Sym)) }
 {
     let node = only_part(place, parts)?;
     let number = symbol_of(context.text, context.symbols, node)?;

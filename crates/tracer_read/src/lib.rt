@@ -5,12 +5,14 @@ mod context;
 mod draft;
 mod expressions;
 mod heads;
+mod laws;
 mod numbers;
 mod parts;
 mod reading;
 mod scripts;
 mod statements;
 
+pub use laws::{each_list_stays, each_statement_stays};
 pub use reading::read_script;
 
 #[cfg(test)]

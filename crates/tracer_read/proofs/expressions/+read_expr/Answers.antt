@@ -1,10 +1,9 @@
-use Rattle.std.proofs.Common.{◌≡◌, ◌∙◌, Some, Ok, List, map, sym, ap, subst, arith, rules}
+use Rattle.std.proofs.Common.{◌≡◌, ◌∙◌, Some, Ok, sym, ap, subst, arith}
 use Rattle.sl_base.specs.Refusals.{Gives}
 use Rattle.tracer_lang.specs.Tree.{expression_of}
 use Rattle.tracer_text.specs.declared.node.Nodes.{size-Nodes}
 use Rattle.tracer_read.proofs.Sizes.{rest_less}
-use Rattle.tracer_text.specs.Nodes.{Tree, list, Trees, tree, tree_of, trees_of}
-use Rattle.tracer_read.specs.declared.heads.ExpressionHead.{ExpressionHead}
+use Rattle.tracer_text.specs.Nodes.{list, tree, tree_of, trees_of}
 use Rattle.tracer_read.specs.Heads.{expression_head}
 use Rattle.tracer_read.specs.Expressions.{head, all, expression, expressions, expression_form}
 use Rattle.tracer_read.specs.Views.{around}

@@ -1,9 +1,8 @@
-use Rattle.std.proofs.Common.{◌≡◌, ◌==◌, ◌<◌, ℕ, Bool, not, true, false, Some, None, Ok, Err, sym, ap, ◌∙◌, get_or}
+use Rattle.std.proofs.Common.{◌≡◌, ◌==◌, not, true, false, Some, None, Ok, sym, ap, ◌∙◌, get_or}
 use Rattle.tracer_text.specs.declared.fault.ScriptCause.TheVariants as causes
-use Rattle.tracer_text.specs.FirstPass.{fault}
-use Rattle.tracer_text.specs.Nodes.{tree, tree_of, trees_of}
+use Rattle.tracer_text.specs.Nodes.{tree_of, trees_of}
 use Rattle.tracer_read.specs.Parts.{unless, word_of, name_index, part_count}
-use Rattle.tracer_read.specs.Expressions.{called, callee_names, parameter_counts}
+use Rattle.tracer_read.specs.Expressions.{called, callee_names}
 use Rattle.tracer_read.specs.Views.{around}
 use Rattle.tracer_read.proofs.Places.{callee_index, callee_parameters}
 use Rattle.tracer_read.proofs.Called.{called_unknown, called_known}

@@ -1,9 +1,8 @@
-use Rattle.std.proofs.Common.{◌≡◌, Ok, List, sym, ap, subst, ◌∙◌, arith}
+use Rattle.std.proofs.Common.{◌≡◌, Ok, sym, ap, subst, ◌∙◌, arith}
 use Rattle.std.proofs.lemmas.Result.{err_from_is_err_and}
-use Rattle.tracer_lang.specs.Tree.{ScriptTree, script_of}
+use Rattle.tracer_lang.specs.Tree.{script_of}
 use Rattle.tracer_lang.specs.Limits.{IsWithinLimits}
-use Rattle.tracer_text.specs.FirstPass.{first_pass}
-use Rattle.tracer_text.specs.Nodes.{Trees, trees_of, nodes_from}
+use Rattle.tracer_text.specs.Nodes.{trees_of, nodes_from}
 use Rattle.tracer_read.specs.Drafts.{draft_of}
 use Rattle.tracer_read.proofs.Accepted.{Small, part_count-le}
 use Rattle.tracer_read.proofs.Whole.{refused_first, refused_second, read_whole, read_within, trees-small}

@@ -1,10 +1,9 @@
-use Rattle.std.proofs.Common.{◌≡◌, ◌∙◌, Some, Ok, List, map, sym, ap, subst, arith}
+use Rattle.std.proofs.Common.{◌≡◌, ◌∙◌, Some, Ok, sym, ap, subst, arith}
 use Rattle.sl_base.specs.Refusals.{Gives}
 use Rattle.tracer_lang.specs.Tree.{statement_of}
 use Rattle.tracer_text.specs.declared.node.Nodes.{size-Nodes}
 use Rattle.tracer_read.proofs.Sizes.{rest_less}
-use Rattle.tracer_text.specs.Nodes.{Tree, list, Trees, tree, tree_of, trees_of}
-use Rattle.tracer_read.specs.declared.heads.StatementHead.{StatementHead}
+use Rattle.tracer_text.specs.Nodes.{list, tree, tree_of, trees_of}
 use Rattle.tracer_read.specs.Heads.{statement_head}
 use Rattle.tracer_read.specs.Expressions.{head}
 use Rattle.tracer_read.specs.Statements.{in_order, step_of, steps_of, statement_form}

@@ -1,0 +1,30 @@
+-- Laws of what is read, in the subject's own words.
+use Rattle.std.specs.Prelude.{◌≡◌, ℕ, ◌+◌, List, length, is_some, IfOk, if◌then◌else◌}
+use Rattle.tracer_lang.specs.Tree.{Statements, no_statements, statement}
+use Rattle.tracer_text.specs.declared.token.Token.{Token}
+use Rattle.tracer_text.specs.Nodes.{Trees}
+use Rattle.tracer_read.specs.Parts.{part_count}
+use Rattle.tracer_read.specs.Expressions.{Around}
+use Rattle.tracer_read.specs.Statements.{in_order, steps_of}
+use Rattle.tracer_read.specs.Scripts.{Draft, items, nothing}
+
+abbrev pub statement_count : Statements → ℕ
+statement_count no_statements = 0
+statement_count (statement first rest) = 1 + statement_count rest
+
+-- a body has a statement for each of its lists
+abbrev pub EachStatementStays : Type 0
+EachStatementStays =
+    (around : Around) (trees : Trees) (locals : List Token)
+    → IfOk (in_order (steps_of around trees) locals) (λ read. statement_count read.0 ≡ part_count trees)
+
+-- how many lists of the top level are read
+abbrev pub list_count : Draft → ℕ
+list_count draft =
+    length draft.functions + length draft.tracepoints + (if is_some draft.budget then 1 else 0)
+
+-- a script has a function, a tracepoint or the budget for each of its lists
+abbrev pub EachListStays : Type 0
+EachListStays =
+    (around : Around) (trees : Trees)
+    → IfOk (items around trees nothing) (λ draft. list_count draft ≡ part_count trees)
