@@ -168,8 +168,10 @@ assembled_line count = codes "assembled " ++ decimal count ++ codes " bytes" ++ 
 
 -- the file of an image under a name, and the line that tells how long it is
 abbrev pub assembled : List ℕ → List ℕ → Done
-assembled name file =
-    record { text = assembled_line (length file); put = Some (record { name = name; bytes = file }) }
+assembled name file = record {
+  text = assembled_line (length file);
+  put = Some (record { name = name; bytes = file });
+}
 
 -- the image of a source
 abbrev pub image_of_source : List ℕ → Result Image Refusal
