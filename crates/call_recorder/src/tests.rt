@@ -115,63 +115,6 @@ fn ends(rt: HostRuntime) -> Result<(), Fail> {
     Ok(())
 }
 
-/// The code of a program as a small C library makes it: an unknown call, two of the heap, a write, and the exit.
-const CODE: [u32; 22] = [
-    0x0010_0513,
-    0x0001_15B7,
-    0x0045_8593,
-    0x0500_0893,
-    0x0000_0073,
-    0x0000_0513,
-    0x0D60_0893,
-    0x0000_0073,
-    0x0000_12B7,
-    0x0055_0533,
-    0x0000_0073,
-    0x0100_00EF,
-    0x0000_0513,
-    0x05D0_0893,
-    0x0000_0073,
-    0x0010_0513,
-    0x0001_15B7,
-    0x0005_8593,
-    0x0030_0613,
-    0x0400_0893,
-    0x0000_0073,
-    0x0000_8067,
-];
-
-#[test]
-fn small_library(rt: HostRuntime) -> Result<(), Fail> {
-    let alloc = rt.alloc();
-    let mut words = Vec::new(alloc);
-    words.extend_from_slice(&CODE)?;
-    while words.len() < 1024 {
-        words.push(0)?;
-    }
-    words.push(0x000A_6968)?;
-    words.extend_from_slice(&[0; 32])?;
-    for every in [1, 2, 7, 21, 22, 1000] {
-        let mut world = world_of(alloc, &[(3, &[])])?;
-        let rec = recorded(alloc, &words, 1000, every, None, &mut world)?;
-        assert_eq!(rt; rec.end, End::Exited(0));
-        assert_eq!(rt; rec.last.count, 22);
-        assert_eq!(rt; rec.calls.len(), 4);
-        let calls: [(u32, u32, &[u8]); 4] = [
-            (80, 0xFFFF_FFDA, &[]),
-            (214, 0x12000, &[]),
-            (214, 0x13000, &[]),
-            (64, 3, &[104, 105, 10]),
-        ];
-        for (entry, (number, result, bytes)) in rec.calls.as_slice().iter().zip(calls) {
-            assert_eq!(rt; entry.call.number, number);
-            assert_eq!(rt; entry.result, result);
-            assert_eq!(rt; entry.bytes.as_slice(), bytes);
-        }
-    }
-    Ok(())
-}
-
 /// Reads four bytes again and again.
 const READS: &[u32] = &[
     0x0000_0513,
