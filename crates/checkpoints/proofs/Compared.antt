@@ -1,7 +1,7 @@
 -- The least page that differs, among those that were compared so far.
 use Rattle.std.proofs.Common.{◌≡◌, ℕ, ◌<◌, ◌≤◌, Bool, true, false, List, Some, None, refl, ap, ◌∙◌}
 use Rattle.std.proofs.Common.{sym, arith, [], ◌∷◌, ◌++◌, length, take, get_or, ◌+◌, inl, inr}
-use Rattle.std.specs.Prelude.{Option, IsSome, is_some, nat_le, ◌||◌, ◌==◌, ◌⊎◌}
+use Rattle.std.specs.Prelude.{Option, IsSome, nat_le, ◌||◌, ◌==◌, ◌⊎◌}
 use Rattle.std.specs.FinMap.{get}
 use Rattle.std.proofs.lemmas.Grind.{common_steps}
 use Rattle.sl_model.specs.Pages.{Pages}

@@ -1,3 +1,5 @@
+pub mod Chains
+pub mod Listings
 pub mod Options
 pub mod Missing
 pub mod Lists

@@ -1,6 +1,6 @@
 -- What the marks of changed pages tell where a memory is compared with a checkpoint.
 use Rattle.std.proofs.Common.{◌≡◌, ℕ, ◌-◌, ◌*◌, ◌<◌, ◌≤◌, Bool, true, false, cond, List, [], ◌∷◌, Some, None}
-use Rattle.std.proofs.Common.{refl, ap, ◌∙◌, sym, subst, arith, inl, inr, ⊎_elim, eqb, zero, suc, ◌+◌, ◌/◌}
+use Rattle.std.proofs.Common.{refl, ap, ◌∙◌, sym, subst, arith, inl, inr, ⊎_elim, eqb, zero, suc}
 use Rattle.std.specs.Prelude.{Option, IfSome, IsSome, is_some, unwrap_or, ◌||◌, ◌&&◌, ◌⊎◌, ◌==◌, not, Contains, filter, if◌then◌else◌}
 use Rattle.std.specs.Option.{option_or}
 use Rattle.std.specs.List.{list_any}
@@ -13,14 +13,13 @@ use Rattle.sl_model.specs.Marks.{MarksGoOn}
 use Rattle.sl_model.specs.declared.layout.TheConstants.{PROGRAM_PAGES}
 use Rattle.sl_model.specs.Pages.{Pages}
 use Rattle.sl_model.specs.Mapping.{zero_page}
-use Rattle.sl_model.specs.State.{State, IsOpening}
+use Rattle.sl_model.specs.State.{State}
 use Rattle.page_frames.specs.MarkedPages.{MarkedPages}
 use Rattle.call_log.specs.declared.breaks.BreakKind.{BreakKind}
 use Rattle.rec_format.specs.declared.recording.Recording.{Recording}
 use Rattle.rec_format.specs.declared.recording.ListedPage.{ListedPage}
-use Rattle.rec_format.specs.declared.recording.CheckpointData.{CheckpointData}
 use Rattle.rec_format.specs.Recorded.{end_place, checkpoint_at, listed_to, is_listed, last_listing, recorded_page}
-use Rattle.rec_format.specs.Recorded.{recorded_end, recorded_state, recorded_state_of}
+use Rattle.rec_format.specs.Recorded.{recorded_end, recorded_state_of}
 use Rattle.rec_format.specs.Compared.{page_diff, pages_diff, PAGE_NUMBERS}
 use Rattle.rec_format.proofs.SameState.{bytes_diff-same}
 use Rattle.rec_format.proofs.RecordedStates.{get-recorded_pages}

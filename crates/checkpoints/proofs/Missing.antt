@@ -1,9 +1,12 @@
 -- The least listed page that is not mapped.
-use Rattle.std.proofs.Common.{◌≡◌, ℕ, ◌<◌, ◌≤◌, Bool, true, false, List, [], ◌∷◌, ◌++◌, Some, None, refl, ap, ◌∙◌, sym, arith, inl, inr, ⊎_elim, ◌⊎◌}
+use Rattle.std.proofs.Common.{zero, suc, ◌+◌, take, slice_get, get_or, ◌≡◌, ℕ, ◌<◌, ◌≤◌, Bool, true, false, List, [], ◌∷◌, ◌++◌, Some, None, refl, ap, ◌∙◌, sym, arith, inl, inr, ⊎_elim, ◌⊎◌}
 use Rattle.std.specs.Prelude.{Option, IfSome, ◌==◌, ◌||◌, if◌then◌else◌, nat_lt}
 use Rattle.std.specs.List.{AllByRecursion}
 use Rattle.std.specs.FinMap.{contains_key}
 use Rattle.std.proofs.lemmas.Grind.{common_steps}
+use Rattle.std.proofs.lemmas.Bool.{cases_Bool}
+use Rattle.std.proofs.lemmas.Option.{slice_get_within, get_or_from_slice_get}
+use Rattle.rec_format.proofs.Listed.{take_item}
 use Rattle.sl_model.specs.Pages.{Pages}
 use Rattle.sl_model.specs.declared.layout.TheConstants.{PROGRAM_PAGES}
 use Rattle.rec_format.specs.declared.recording.ListedPage.{ListedPage}
@@ -96,3 +99,56 @@ least_missing pages None [] = (refl, λ q h. absurd cc)
 least_missing pages (Some n) [] = (λ q h lt. absurd cc, omega arith, inl refl)
 least_missing pages known (x ∷ xs) =
     missing_step pages known x xs (contains_key pages x.number) (missing_from pages known (x ∷ xs)) refl (least_missing pages (if contains_key pages x.number then known else Some (lesser known x.number)) xs)
+
+-- ---- a page that is listed again
+
+lesser_same : (m n : ℕ) → m ≤ n → lesser (Some m) n ≡ m
+lesser_same m n le = grind (arith, common_steps)
+
+repeated_by : (pages : Pages) (xs : List ListedPage) (number : ℕ) (r : Option ℕ) → IsLeastMissing pages None xs r
+    → is_listed xs number ≡ true → contains_key pages number ≡ false → Some (lesser r number) ≡ r
+repeated_by pages xs number None is listed absent = absurd (let e = is.1 number listed in cc)
+repeated_by pages xs number (Some m) is listed absent = ⊎_elim
+    (λ (lt : number < m). absurd (let e = is.0 number listed lt in cc))
+    (λ (le : m ≤ number). ap (λ n. Some n) (lesser_same m number le))
+    (lt_or_le number m)
+  where
+    lt_or_le : (a b : ℕ) → (a < b) ⊎ (b ≤ a)
+    lt_or_le a zero = inr (omega arith)
+    lt_or_le zero (suc b) = inl (omega arith)
+    lt_or_le (suc a) (suc b) = ⊎_elim (λ l. inl (omega (arith, l))) (λ l. inr (omega (arith, l))) (lt_or_le a b)
+
+missing_item : (pages : Pages) (listed : List ListedPage) (i : ℕ) (l : ListedPage) → slice_get listed i ≡ Some l
+    → missing_from pages None (take (i + 1) listed)
+    ≡ (if contains_key pages l.number then missing_from pages None (take i listed)
+    else Some (lesser (missing_from pages None (take i listed)) l.number))
+missing_item pages listed i l at =
+    let lt = slice_get_within listed i l at in
+    let same : l ≡ get_or listed i l = sym (get_or_from_slice_get listed i l l at) in
+    ap (missing_from pages None) (take_item listed i l lt same)
+    ∙ missing_from-append pages None (take i listed) (l ∷ [])
+
+-- a further page that is not mapped
+pub missing_more : (pages : Pages) (listed : List ListedPage) (i : ℕ) (l : ListedPage) → slice_get listed i ≡ Some l
+    → contains_key pages l.number ≡ false
+    → missing_from pages None (take (i + 1) listed)
+    ≡ Some (lesser (missing_from pages None (take i listed)) l.number)
+missing_more pages listed i l at absent = missing_item pages listed i l at ∙ rw absent refl
+
+-- one that is mapped
+pub missing_mapped : (pages : Pages) (listed : List ListedPage) (i : ℕ) (l : ListedPage) → slice_get listed i ≡ Some l
+    → contains_key pages l.number ≡ true
+    → missing_from pages None (take (i + 1) listed) ≡ missing_from pages None (take i listed)
+missing_mapped pages listed i l at mapped = missing_item pages listed i l at ∙ rw mapped refl
+
+-- one that was listed before
+pub missing_again : (pages : Pages) (listed : List ListedPage) (i : ℕ) (l : ListedPage) → slice_get listed i ≡ Some l
+    → is_listed (take i listed) l.number ≡ true
+    → missing_from pages None (take (i + 1) listed) ≡ missing_from pages None (take i listed)
+missing_again pages listed i l at again = ⊎_elim
+    (λ (mapped : contains_key pages l.number ≡ true). missing_mapped pages listed i l at mapped)
+    (λ (absent : contains_key pages l.number ≡ false).
+    missing_more pages listed i l at absent
+    ∙ repeated_by pages (take i listed) l.number (missing_from pages None (take i listed))
+    (least_missing pages None (take i listed)) again absent)
+    (cases_Bool (contains_key pages l.number))

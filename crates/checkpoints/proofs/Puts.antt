@@ -1,7 +1,6 @@
 -- Listed pages that are put into memory, the last listing of a page first.
-use Rattle.std.proofs.Common.{◌≡◌, ◌≢◌, ℕ, zero, suc, ◌+◌, ◌-◌, ◌*◌, ◌/◌, ◌%◌, ◌<◌, ◌≤◌, Bool, true, false, cond}
-use Rattle.std.proofs.Common.{List, [], ◌∷◌, ◌++◌, length, Some, None, refl, ap, ◌∙◌, sym, subst, arith, eqb, ⊎_elim}
-use Rattle.std.proofs.Common.{drop, get_or, append_assoc}
+use Rattle.std.proofs.Common.{◌≡◌, ◌≢◌, ℕ, ◌*◌, ◌/◌, ◌%◌, Bool, true, false, cond}
+use Rattle.std.proofs.Common.{List, [], ◌∷◌, ◌++◌, length, Some, None, refl, ap, ◌∙◌, sym, arith, eqb, ⊎_elim}
 use Rattle.std.specs.Prelude.{Option, is_some, ◌||◌, ◌&&◌, ◌==◌, if◌then◌else◌}
 use Rattle.std.specs.Option.{option_map}
 use Rattle.std.specs.List.{list_any}
@@ -11,15 +10,13 @@ use Rattle.std.proofs.lemmas.Bool.{cases_Bool}
 use Rattle.std.proofs.lemmas.Bool.Decides.{eqb_tells}
 use Rattle.std.proofs.lemmas.List.Folds.{list_any-append}
 use Rattle.std.proofs.lemmas.Grind.{common_steps}
-use Rattle.sl_model.specs.Pages.{Pages, ArePages, set_bytes}
-use Rattle.sl_model.proofs.WholePages.{set_page, get-inserted}
-use Rattle.page_frames.specs.MarkedPages.{MarkedPages, mark, mark_bytes, with_bytes}
+use Rattle.sl_model.specs.Pages.{Pages, ArePages}
+use Rattle.sl_model.proofs.WholePages.{set_page}
+use Rattle.page_frames.specs.MarkedPages.{MarkedPages, mark, with_bytes}
 use Rattle.page_frames.proofs.Marking.{mark_bytes-in_page}
 use Rattle.rec_format.specs.declared.recording.ListedPage.{ListedPage}
-use Rattle.rec_format.specs.declared.recording.Recording.{Recording}
-use Rattle.rec_format.specs.Recorded.{is_listed, last_listing, put_all_listed, listed_to, checkpoint_at, end_place}
+use Rattle.rec_format.specs.Recorded.{is_listed, last_listing, put_all_listed}
 use Rattle.rec_format.proofs.RecordedStates.{get-put_all_listed}
-use Rattle.rec_format.proofs.Listed.{listed_to-before, drop_item}
 use Rattle.checkpoints.specs.Putting.{ArePut}
 use Rattle.checkpoints.proofs.Marked.{unlisted}
 
@@ -224,15 +221,3 @@ put-written before x later old new are whole mapped clean long is =
 pub put-none : (memory : MarkedPages) → memory.dirty ≡ [] → ArePut memory.pages [] memory
 unfolding put_all_listed
 put-none memory clean = record { pages = refl; marked = λ page. rw clean refl }
-
-pub before-one : (listed later : List ListedPage) (left : ℕ) (item : ListedPage) → left < length listed
-    → item ≡ get_or listed left item → item ∷ (drop (left + 1) listed ++ later) ≡ drop left listed ++ later
-before-one listed later left item lt is = ap (λ l. l ++ later) (sym (drop_item listed left item lt is))
-
-pub before-checkpoint : (rec : Recording) (k left : ℕ) (rest pages : List ListedPage) → 0 < left → left ≤ end_place rec
-    → pages ≡ (checkpoint_at rec left).pages → listed_to rec k ≡ listed_to rec left ++ rest
-    → listed_to rec k ≡ listed_to rec (left - 1) ++ (pages ++ rest)
-before-checkpoint rec k left rest pages some within is all =
-    all ∙ ap (λ l. l ++ rest) (listed_to-before rec left some within)
-    ∙ append_assoc (listed_to rec (left - 1)) (checkpoint_at rec left).pages rest
-    ∙ ap (λ p. listed_to rec (left - 1) ++ (p ++ rest)) (sym is)

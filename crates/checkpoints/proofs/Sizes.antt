@@ -1,11 +1,10 @@
 -- A part of a memory has no more pages than the whole.
-use Rattle.std.proofs.Common.{◌≡◌, ℕ, zero, suc, ◌+◌, ◌-◌, ◌<◌, ◌≤◌, Bool, true, false, cond, List, [], ◌∷◌, length, Some, None, refl, ap, ◌∙◌, sym, arith, subst, ⊎_elim}
-use Rattle.std.specs.Prelude.{Option, IsSome, is_some, nat_lt, if◌then◌else◌}
+use Rattle.std.proofs.Common.{◌≡◌, ℕ, zero, suc, ◌-◌, ◌<◌, ◌≤◌, Bool, true, false, cond, List, [], ◌∷◌, length, Some, None, refl, ap, ◌∙◌, sym, arith, subst, ⊎_elim}
+use Rattle.std.specs.Prelude.{Option, IsSome, is_some}
 use Rattle.std.specs.Ordering.{nat_cmp, eq_by_cmp}
 use Rattle.std.specs.Cmp.{nat_cmp_total, eq_by_cmp_equiv}
-use Rattle.std.specs.FinMap.{get, insert, remove, len, entries, find, empty, contains_key, get-entries, get-insert, get-remove, get-empty, len-entries, len-insert, len-remove, empty_of_len, same_map, nat_cmp-IsAntisymmetric}
-use Rattle.std.proofs.lemmas.Bool.{cases_lt, cases_eq}
-use Rattle.std.proofs.lemmas.Grind.{common_steps}
+use Rattle.std.specs.FinMap.{get, remove, len, entries, find, get-entries, get-remove, get-empty, len-entries, len-remove, empty_of_len}
+use Rattle.std.proofs.lemmas.Bool.{cases_lt}
 use Rattle.sl_model.specs.Pages.{Pages}
 
 first_entry : (m : Pages) (es : List (ℕ × List ℕ)) (n : ℕ) → entries m ≡ es → length es ≡ suc n → (k : ℕ) × (is_some (get m k) ≡ true)

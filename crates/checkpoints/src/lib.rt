@@ -9,6 +9,8 @@ mod mapping;
 mod pages;
 mod parts;
 mod restore;
+mod version_lists;
+mod versions;
 
 pub use kept::Checkpoints;
 pub use laws::{comparisons_see_changes, recorded_states_hold_recorded};

@@ -1,6 +1,6 @@
 //! The checkpoints by their numbers, and the pages that they record.
 
-ghost use Rattle.std.specs.Prelude.{◌≡◌, ◌<◌, ◌≤◌, length};
+ghost use Rattle.std.specs.Prelude.{◌≡◌, ◌<◌, ◌≤◌, length, IfOk};
 ghost use Rattle.sl_model.specs.Mapping.{zero_page};
 ghost use Rattle.rv_machine.specs.Machine.{state_of};
 ghost use Rattle.rec_format.specs.Rules.{IsRecordingValue};
@@ -8,9 +8,12 @@ ghost use Rattle.rec_format.specs.Recorded.{end_place, checkpoint_at, recorded_p
 ghost use Rattle.sl_model.specs.State.{IsOpening};
 
 use crate::kept::Checkpoints;
+use crate::version_lists::checkpoint_of;
+use crate::versions::Versions;
 use page_frames::Frames;
 use rec_format::{CheckpointData, Recording};
 use rv_machine::Machine;
+use sl_base::Memory;
 use std::alloc::Global;
 
 /// The bytes of `zeros`.
@@ -24,20 +27,31 @@ fn zeros() -> &'static [u8]
 }
 
 impl Checkpoints {
-    /// The checkpoints of a recording that opens with this state. Nothing is copied.
-    pub fn new(alloc: Global, rec: Recording, machine: Machine, opening: Frames) -> Checkpoints
+    /// The checkpoints of a recording that opens with this state. No page is copied.
+    ///
+    /// # Errors
+    ///
+    /// Want of memory.
+    pub fn new(
+        alloc: Global,
+        rec: Recording,
+        machine: Machine,
+        opening: Frames,
+    ) -> Result<Checkpoints, Memory>
         requires recording { IsRecordingValue rec }
         requires opening { IsOpening (state_of machine opening.pages) }
-        ensures recording { result.rec ≡ rec }
-        ensures machine { result.machine ≡ machine }
-        ensures memory { result.opening ≡ opening }
+        ensures recording { IfOk result (λ checkpoints. checkpoints.rec ≡ rec) }
+        ensures machine { IfOk result (λ checkpoints. checkpoints.machine ≡ machine) }
+        ensures memory { IfOk result (λ checkpoints. checkpoints.opening ≡ opening) }
     {
-        Checkpoints {
+        let versions = Versions::of(alloc, &rec)?;
+        Ok(Checkpoints {
             alloc,
             rec,
             machine,
             opening,
-        }
+            versions,
+        })
     }
 
     /// How many intervals lie between neighbouring checkpoints, from the opening state to the end.
@@ -52,10 +66,7 @@ impl Checkpoints {
         requires { 0 < k }
         ensures { result.now ≡ checkpoint_at self.now.rec k }
     {
-        match self.rec.checkpoints.as_slice().get(k as usize - 1) {
-            Some(checkpoint) => checkpoint,
-            None => &self.rec.last,
-        }
+        checkpoint_of(&self.rec, k)
     }
 
     /// The page that checkpoint `k` records: its last listing up to there, else its opening content, else zeros.

@@ -106,7 +106,7 @@ fn kept(alloc: Global, rows: &[Row<'_>], last: &Row<'_>) -> Result<Checkpoints, 
     add(&mut bytes, last)?;
     let rec = read_recording(alloc, &bytes)?;
     let (machine, frames) = opening(alloc)?;
-    Ok(Checkpoints::new(alloc, rec, machine, frames))
+    Ok(Checkpoints::new(alloc, rec, machine, frames)?)
 }
 
 /// A checkpoint that changes only page 16.
@@ -192,6 +192,41 @@ fn pages_as_they_are_listed(rt: HostRuntime) -> Result<(), Fail> {
         (5, 0xffff_ffff, 0),
     ] {
         expect_byte(&rt, &checkpoints, k, page, first);
+    }
+    Ok(())
+}
+
+/// The first byte of a page that a checkpoint records, looked for in the lists from there back.
+fn byte_listed(checkpoints: &Checkpoints, k: u32, page: u32) -> Option<u8> {
+    for back in 0..k {
+        let checkpoint = checkpoints.checkpoint(k - back);
+        for listing in checkpoint.pages.as_slice() {
+            if listing.number == page {
+                return listing.bytes.as_slice().first().copied();
+            }
+        }
+    }
+    None
+}
+
+#[test]
+fn pages_that_share_a_bucket(rt: HostRuntime) -> Result<(), Fail> {
+    let rows = [
+        plain(1, &[(16, 1), (4112, 2), (8208, 3)]),
+        plain(2, &[(4112, 4)]),
+        plain(3, &[(16, 5), (17, 6)]),
+        plain(4, &[(15, 7), (8208, 8)]),
+        plain(5, &[(4112, 9), (4113, 10)]),
+        plain(6, &[]),
+        plain(7, &[(16, 11), (17, 12), (8208, 13)]),
+    ];
+    let checkpoints = kept(rt.alloc(), &rows, &plain(8, &[(15, 14), (4112, 15)]))?;
+    for k in 0..9 {
+        for page in [15, 16, 17, 18, 4112, 4113, 8208, 8209] {
+            let opened = if page == 16 { 1 } else { 0 };
+            let first = byte_listed(&checkpoints, k, page).unwrap_or(opened);
+            expect_byte(&rt, &checkpoints, k, page, first);
+        }
     }
     Ok(())
 }

@@ -133,7 +133,7 @@ fn checkpoints_of(alloc: Global, rec: Recording, image: &Image) -> Result<Checkp
         opened_of checkpoints ≡ opening image.now rec.args) }
 {
     let (machine, frames) = load(alloc, image, rec.args.as_slice())?;
-    Ok(Checkpoints::new(alloc, rec, machine, frames))
+    Checkpoints::new(alloc, rec, machine, frames)
 }
 
 /// A recording and its image, cut into at most so many epochs, or into one for each interval

@@ -1,26 +1,22 @@
-use Rattle.std.proofs.Common.{◌-◌, ap, ◌∙◌, arith}
-use Rattle.rec_format.specs.Recorded.{listed_to, last_listing}
-use Rattle.checkpoints.proofs.Lists.{last_listing-before}
-use Rattle.checkpoints.proofs.Options.{found_default, no_default}
+use Rattle.std.proofs.Common.{ap, sym, ◌∙◌}
+use Rattle.rec_format.specs.Recorded.{end_place, listed_to}
+use Rattle.checkpoints.specs.Versions.{version_of}
+use Rattle.checkpoints.proofs.Listings.{last-found, found_bytes, found_none}
 use Rattle.checkpoints.proofs.kept.Checkpoints.last_listed.Goals as goal
 
-pub returns-then-is_some : goal.returns-then-is_some
-returns-then-is_some c = λ bytes.
-    let rec = c.args.self.now.rec in
-    let left = c.loop-left.left in
-    let before = last_listing bytes (listed_to rec (left - 1)) c.args.page in
-    c.loop-left.invariant.rest bytes
-    ∙ last_listing-before bytes rec left c.args.page _ (omega arith) (omega (arith, c.loop-left.invariant.within)) (c.as_slice.ensures ∙ ap (λ d. d.pages) c.checkpoint.ensures)
-    ∙ c.last_listing-found.ensures before ∙ found_default c.last_listing-found.result before bytes c.if-is_some.ensures
+pub returns-in-Some : goal.returns-in-Some
+returns-in-Some c = λ bytes.
+    let self = c.args.self.now in
+    let all = listed_to self.rec (end_place self.rec) in
+    let found = c.find.ensures.index ∙ ap (λ n. version_of self.versions.items.items n c.args.page) c.count_to.ensures.count in
+    last-found self.rec self.versions c.args.k c.args.page bytes c.find.result self.listings c.requires found
+    ∙ found_bytes all c.in-Some.index c.listing.result.now c.find.result bytes c.in-Some.is c.listing.ensures
+    ∙ sym c.as_slice.ensures
 
-pub loop-left-preserved : goal.loop-left-preserved
-loop-left-preserved c = record {
-  within = omega (arith, c.loop-left.invariant.within);
-  rest = λ bytes.
-      let rec = c.args.self.now.rec in
-      let left = c.loop-left.left in
-      let before = last_listing bytes (listed_to rec (left - 1)) c.args.page in
-      c.loop-left.invariant.rest bytes
-      ∙ last_listing-before bytes rec left c.args.page _ (omega arith) (omega (arith, c.loop-left.invariant.within)) (c.as_slice.ensures ∙ ap (λ d. d.pages) c.checkpoint.ensures)
-      ∙ c.last_listing-found.ensures before ∙ no_default c.last_listing-found.result before c.if-is_some.ensures;
-}
+pub returns-in-None : goal.returns-in-None
+returns-in-None c = λ bytes.
+    let self = c.args.self.now in
+    let all = listed_to self.rec (end_place self.rec) in
+    let found = c.find.ensures.index ∙ ap (λ n. version_of self.versions.items.items n c.args.page) c.count_to.ensures.count in
+    last-found self.rec self.versions c.args.k c.args.page bytes c.find.result self.listings c.requires found
+    ∙ found_none all c.find.result bytes c.in-None.is

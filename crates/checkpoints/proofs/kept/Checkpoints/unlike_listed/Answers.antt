@@ -1,4 +1,4 @@
-use Rattle.std.proofs.Common.{◌≡◌, ◌∙◌, ⊎_elim, arith, true, take, subst, ap, sym}
+use Rattle.std.proofs.Common.{◌≡◌, ⊎_elim, arith, true, take, subst}
 use Rattle.rec_format.specs.Recorded.{is_listed}
 use Rattle.checkpoints.specs.Memory.{IsCompared}
 use Rattle.checkpoints.proofs.Compared.{listed_more}
