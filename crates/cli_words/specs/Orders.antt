@@ -251,7 +251,10 @@ IsDistance n = (1 ≤ n) × (n ≤ INSTRUCTIONS)
 
 abbrev pub FitsRecord : RecordOptions → Type 0
 FitsRecord options =
-    IsDistance options.limit × IsDistance options.every × (fit options.arguments ≡ true)
+    IsDistance options.limit
+    × IsDistance options.every
+    × (length options.arguments ≤ 64)
+    × (fit options.arguments ≡ true)
 
 abbrev pub Fits : Order → Type 0
 Fits (Trace recording script options) = FitsTrace options

@@ -1,6 +1,6 @@
 //! The values of options.
 
-ghost use Rattle.std.specs.Prelude.{◌≡◌, ◌≤◌, IfOk, IfSome, true, codes};
+ghost use Rattle.std.specs.Prelude.{◌≡◌, ◌≤◌, IfOk, IfSome, true, codes, length};
 ghost use Rattle.std.specs.Option.{option_map};
 ghost use Rattle.cli_words.specs.Numbers.{hex_value, number};
 ghost use Rattle.cli_words.specs.Orders.{value_of, values_of, is_among, are_among, optional, with_default, analyses_of, every_of, flat_of, has_no_zero, fit, arguments_of, trace_options, record_options, FitsTrace, FitsRecord, IsDistance};
@@ -194,6 +194,7 @@ fn fit(arguments: &[&str]) -> bool
 fn arguments_of<'a>(alloc: Global, settings: &[Setting<'a>]) -> Result<Vec<&'a str>, Refused<Usage>>
     ensures value { Gives (λ words. words_view words.items) result
         (arguments_of (settings_view settings.now)) }
+    ensures few { IfOk result (λ words. length (words_view words.items) ≤ 64) }
     ensures fit { IfOk result (λ words. fit (words_view words.items) ≡ true) }
 {
     let arguments = values_of(alloc, "--arg", settings)?;
