@@ -124,6 +124,17 @@ checked_line rec =
     ++ decimal rec.last.count
     ++ 10 ∷ []
 
+-- what is said of a recording that is put: the count of its end, and how it ended
+abbrev pub recorded_line : Recording → List ℕ
+recorded_line rec =
+    codes "recorded "
+    ++ decimal rec.last.count
+    ++ codes " "
+    ++ end_kind rec.end
+    ++ codes " "
+    ++ word_text (end_value rec.end)
+    ++ 10 ∷ []
+
 -- the report: the lines of the analyses, and how the run ended
 abbrev pub report : List ℕ → RunEnd → List ℕ
 report analyses last = analyses ++ end_line last.end last.count last.pc ++ regs_line last.x

@@ -27,6 +27,7 @@ refusal_code (refusal.ImageBroken fault) = 5
 refusal_code (refusal.ReplayBroken first) = 8
 refusal_code (refusal.CheckpointDiffers first) = 9
 refusal_code (refusal.AsmRefused fault) = 13
+refusal_code (refusal.TooLarge length) = 14
 
 -- and after each ending
 abbrev pub code_of : Status → ℕ
@@ -157,6 +158,8 @@ refusal_line (refusal.AsmRefused fault) =
     ∷ codes ": "
     ∷ asm_cause_name fault.cause
     ∷ [])
+refusal_line (refusal.TooLarge length) =
+    line_of (codes "recording of " ∷ decimal length ∷ codes " bytes is too large" ∷ [])
 
 -- what stands on the second output, which is nothing after Ok
 abbrev pub fault_line : Status → List ℕ

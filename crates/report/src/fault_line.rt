@@ -279,6 +279,14 @@ fn write_refusal<O: Sink>(out: &mut O, why: &Refusal) -> Result<(), SinkFailed>
                 Text(asm_cause_name(fault.cause)),
             ],
         ),
+        Refusal::TooLarge { length } => write_line(
+            out,
+            &[
+                Text("recording of "),
+                Number(*length),
+                Text(" bytes is too large"),
+            ],
+        ),
     }
 }
 

@@ -10,7 +10,7 @@ mod text;
 pub use fault_line::write_fault;
 pub use run_end::{RunEnd, recorded_end};
 pub use status::{Refusal, Status};
-pub use text::{checked_text, report_text};
+pub use text::{checked_text, recorded_text, report_text};
 
 #[cfg(test)]
 mod tests;

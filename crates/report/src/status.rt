@@ -26,6 +26,8 @@ pub enum Refusal {
     CheckpointDiffers(Break),
     /// The text is no source of the assembler, by its first fault.
     AsmRefused(AsmFault),
+    /// The recording that was to be put has so many bytes, more than a recording may have.
+    TooLarge { length: u64 },
 }
 
 /// How a command ended. Each ending but `Ok` has one line on the second output.
@@ -60,6 +62,7 @@ impl Refusal {
             Refusal::ReplayBroken(_) => 8,
             Refusal::CheckpointDiffers(_) => 9,
             Refusal::AsmRefused(_) => 13,
+            Refusal::TooLarge { .. } => 14,
         }
     }
 }

@@ -1,12 +1,12 @@
 //! The texts of commands: the report of a run, and what a check says.
 
 ghost use Rattle.std.specs.Prelude.{◌≡◌, ◌++◌, IfOk, OnOk};
-ghost use Rattle.report.specs.Report.{all_lines, report, checked_line};
+ghost use Rattle.report.specs.Report.{all_lines, report, checked_line, recorded_line};
 
-use crate::lines::{push_end_line, push_record_line, push_regs_line};
+use crate::lines::{end_kind, end_value, push_end_line, push_record_line, push_regs_line};
 use crate::run_end::RunEnd;
 use rec_format::Recording;
-use sl_base::{Memory, decimal_text};
+use sl_base::{Memory, decimal_text, word_text};
 use std::alloc::{AllocError, Global};
 use tracer_lang::Record;
 
@@ -43,6 +43,21 @@ pub fn checked_text(alloc: Global, rec: &Recording) -> Result<Vec<u8>, Memory>
     out.extend_from_slice(decimal_text(rec.checkpoints.len() as u64).as_bytes())?;
     out.extend_from_slice(b" checkpoints, end ")?;
     out.extend_from_slice(decimal_text(rec.last.count).as_bytes())?;
+    out.push(b'\n')?;
+    Ok(out)
+}
+
+/// What is said of a recording that is put: the count of its end, and how it ended.
+pub fn recorded_text(alloc: Global, rec: &Recording) -> Result<Vec<u8>, Memory>
+    ensures { IfOk result (λ text. text.items ≡ recorded_line rec.now) }
+{
+    let mut out = Vec::new(alloc);
+    out.extend_from_slice(b"recorded ")?;
+    out.extend_from_slice(decimal_text(rec.last.count).as_bytes())?;
+    out.extend_from_slice(b" ")?;
+    out.extend_from_slice(end_kind(&rec.end).as_bytes())?;
+    out.extend_from_slice(b" ")?;
+    out.extend_from_slice(word_text(end_value(&rec.end)).as_bytes())?;
     out.push(b'\n')?;
     Ok(out)
 }

@@ -17,3 +17,6 @@ returns-in-ImageBroken-clause-written g c = rw (c.in-ImageBroken.is, ← c.image
 
 pub returns-in-AsmRefused-clause-written : goal.returns-in-AsmRefused-clause-written
 returns-in-AsmRefused-clause-written g c = rw (c.in-AsmRefused.is, ← c.asm_cause_name.ensures) c.write_line-in-AsmRefused.ensures.written
+
+pub returns-in-TooLarge-clause-written : goal.returns-in-TooLarge-clause-written
+returns-in-TooLarge-clause-written g c = rw c.in-TooLarge.is c.write_line-in-TooLarge.ensures.written
