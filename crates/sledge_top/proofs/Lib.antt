@@ -1,3 +1,6 @@
 mod WholeRun
 mod Turns
 mod Reports
+mod Arguments
+mod Recuts
+mod Recorded

@@ -1,9 +1,11 @@
--- What a command comes to, from its words and the files: what it does, or why it is refused.
+-- What a command comes to, from its words and the files: what it does, or why it is refused. What
+-- the command that records comes to depends on the world too.
 use Rattle.std.specs.Prelude.{◌≡◌, ◌==◌, ◌&&◌, Bool, true, false, ℕ, List, [], ◌∷◌, ◌++◌, length, codes, decimal, Option, Some, None, Result, Ok, Err, nat_lt, if◌then◌else◌}
 use Rattle.std.specs.Option.{option_and_then, unwrap_or}
 use Rattle.std.specs.Str.{bytes_eq}
 use Rattle.std.specs.FinMap.{get}
 use Rattle.sl_base.specs.Files.{Files}
+use Rattle.sl_base.specs.declared.world.Reply.{Reply}
 use Rattle.sl_model.specs.State.{State}
 use Rattle.elf_image.specs.declared.image.Image.{Image}
 use Rattle.elf_image.specs.declared.fault.ImageFault.{ImageFault}
@@ -14,6 +16,7 @@ use Rattle.call_log.specs.declared.breaks.BreakKind.{BreakKind}
 use Rattle.call_log.specs.declared.breaks.BreakKind.TheVariants as kind
 use Rattle.rec_format.specs.declared.recording.Recording.{Recording}
 use Rattle.rec_format.specs.Reading.{reading}
+use Rattle.rec_format.specs.Spelling.{spelling}
 use Rattle.replay.specs.Opening.{opening}
 use Rattle.replay.specs.Run.{run_from}
 use Rattle.replay.specs.Breaks.{first_break}
@@ -21,9 +24,14 @@ use Rattle.epoch_run.specs.Records.{Tracers, emit_at, records}
 use Rattle.report.specs.declared.run_end.RunEnd.{RunEnd}
 use Rattle.report.specs.declared.status.Refusal.{Refusal}
 use Rattle.report.specs.declared.status.Refusal.TheVariants as refusal
-use Rattle.report.specs.Report.{all_lines, report, checked_line}
-use Rattle.cli_words.specs.Orders.{Order, TraceOptions, TraceAt, Replay, Check, Record, Asm, Show, order_of}
-use Rattle.sledge_top.specs.Done.{Done, only_text}
+use Rattle.report.specs.Report.{all_lines, report, checked_line, recorded_line}
+use Rattle.call_recorder.specs.declared.source.ImageSource.{ImageSource}
+use Rattle.call_recorder.specs.Recorded.{IsRecorded}
+use Rattle.call_recorder.specs.Recut.{recut_of}
+use Rattle.cli_words.specs.Orders.{Order, TraceOptions, RecordOptions, TraceAt, Replay, Check, Record, Recut, Asm, Show, order_of}
+use Rattle.report.specs.declared.status.Status.{Status}
+use Rattle.sledge_top.specs.Done.{Done, only_text, text_of}
+use Rattle.sledge_top.specs.Endings.{Ends, Says, Leaves, Answers}
 use Rattle.elf_image.specs.Written.{written}
 use Rattle.rv_asm.specs.Assembly.{assembly}
 use Rattle.sledge_top.specs.Show.{show_lines}
@@ -184,6 +192,88 @@ asm files source output = do
   image ← image_of_source text
   Ok (assembled output (written image))
 
+-- ---- recordings that are put
+
+-- the bytes of a recording, where a recording may have so many
+abbrev pub spelled : Recording → Result (List ℕ) Refusal
+spelled rec =
+    if nat_lt RECORDING_LIMIT (length (spelling rec))
+    then Err (refusal.TooLarge (length (spelling rec)))
+    else Ok (spelling rec)
+
+-- the file of a recording under a name, and the line that tells how the run ended
+abbrev pub recorded_as : List ℕ → Recording → List ℕ → Done
+recorded_as name rec file = record {
+  text = recorded_line rec;
+  put = Some (record { name = name; bytes = file });
+}
+
+abbrev pub put_recording : List ℕ → Recording → Result Done Refusal
+put_recording name rec = do
+  file ← spelled rec
+  Ok (recorded_as name rec file)
+
+-- what a recording is used for, where it replays without a break
+abbrev pub unless_broken : {A : Type 0} → A → Option Break → Result A Refusal
+unless_broken x None = Ok x
+unless_broken x (Some first) = Err (broken_by first first.kind)
+
+-- the same run with checkpoints at another distance
+abbrev pub recut_by : ℕ → Recording → State → Result Recording Refusal
+recut_by every rec opened = unless_broken (recut_of rec opened every) (first_break rec opened)
+
+-- and the file of it under a name
+unfoldable pub recut_from : List ℕ → ℕ → Recording → State → Result Done Refusal
+recut_from output every rec opened = do
+  new ← recut_by every rec opened
+  put_recording output new
+
+-- `recut RECORDING OUTPUT`
+abbrev pub recut : Files → List ℕ → List ℕ → ℕ → Result Done Refusal
+recut files name output every = do
+  both ← recorded_in files name
+  recut_from output every both.0 (opening both.1 both.0.args)
+
+-- the bytes of an image file, as a recording keeps them: of kind 0 with the address of a flat image,
+-- and of kind 1 for an ELF file
+abbrev pub source_of : Option ℕ → List ℕ → ImageSource
+source_of None bytes = record { kind = 1; load_addr = 0; bytes = bytes }
+source_of (Some address) bytes = record { kind = 0; load_addr = address; bytes = bytes }
+
+-- Running a program over a world that told these replies before and tells these now comes to this: a
+-- recording of the run is put.
+unfoldable pub RecordsProgram :
+    Image → ImageSource → List ℕ → RecordOptions
+    → Option (List Reply) → Option (List Reply) → Result Done Refusal → Type 0
+RecordsProgram image source output options before now defined =
+    (rec : Recording)
+    × IsRecorded image source options.arguments options.limit options.every before now rec
+    × (defined ≡ put_recording output rec)
+
+-- the same of an image that bytes are; where they are none the world is not asked
+unfoldable pub RecordsImage :
+    Result Image Refusal → List ℕ → List ℕ → RecordOptions
+    → Option (List Reply) → Option (List Reply) → Result Done Refusal → Type 0
+RecordsImage (Err why) bytes output options before now defined =
+    (defined ≡ Err why) × (now ≡ before)
+RecordsImage (Ok image) bytes output options before now defined =
+    RecordsProgram image (source_of options.flat bytes) output options before now defined
+
+-- and from a file; where there is none the world is not asked
+abbrev pub RecordsFile :
+    Result (List ℕ) Refusal → List ℕ → RecordOptions
+    → Option (List Reply) → Option (List Reply) → Result Done Refusal → Type 0
+RecordsFile (Err why) output options before now defined = (defined ≡ Err why) × (now ≡ before)
+RecordsFile (Ok bytes) output options before now defined =
+    RecordsImage (image_or_refusal options.flat bytes) bytes output options before now defined
+
+-- `record IMAGE OUTPUT`
+abbrev pub RecordsTo :
+    Files → List ℕ → List ℕ → RecordOptions
+    → Option (List Reply) → Option (List Reply) → Result Done Refusal → Type 0
+RecordsTo files name output options before now defined =
+    RecordsFile (file_of files name IMAGE_LIMIT) output options before now defined
+
 -- ---- all commands
 
 -- the analysis `all`, alone
@@ -199,6 +289,8 @@ abbrev pub is_built : Order → Bool
 is_built (TraceAt recording address options) = is_plain_trace options
 is_built (Replay recording) = true
 is_built (Check recording) = true
+is_built (Record image output options) = true
+is_built (Recut recording output every) = true
 is_built (Show image address lines flat) = true
 is_built (Asm source output) = true
 is_built other = false
@@ -210,11 +302,12 @@ where_built order = if is_built order then Some order else None
 abbrev pub named_by : List (List ℕ) → Option Order
 named_by words = option_and_then where_built (order_of words)
 
--- what a command comes to
+-- what a command comes to that does not ask the world
 abbrev pub done_by : Files → Order → Result Done Refusal
 done_by files (TraceAt recording address options) = trace_at files recording address
 done_by files (Replay recording) = replay files recording
 done_by files (Check recording) = check files recording
+done_by files (Recut recording output every) = recut files recording output every
 done_by files (Show image address lines flat) = show files image address lines flat
 done_by files (Asm source output) = asm files source output
 done_by files other = Err refusal.Usage
@@ -223,7 +316,7 @@ abbrev pub ordered : Files → Option Order → Result Done Refusal
 ordered files None = Err refusal.Usage
 ordered files (Some order) = done_by files order
 
--- what words come to
+-- what words come to that name no command which asks the world
 abbrev pub outcome : List (List ℕ) → Files → Result Done Refusal
 outcome words files = ordered files (named_by words)
 
@@ -231,6 +324,26 @@ outcome words files = ordered files (named_by words)
 abbrev pub asks_world : Option Order → Bool
 asks_world (Some (Record image output options)) = true
 asks_world other = false
+
+-- What a command comes to, over a world that told these replies before and tells these now: every
+-- command but the one that records comes to its outcome, and the world is not asked.
+abbrev pub ComesTo :
+    Files → Option Order
+    → Option (List Reply) → Option (List Reply) → Result Done Refusal → Type 0
+ComesTo files (Some (Record image output options)) before now defined =
+    RecordsTo files image output options before now defined
+ComesTo files named before now defined = (defined ≡ ordered files named) × (now ≡ before)
+
+-- A command that does not ask the world ends as its outcome, says it and leaves the files so.
+abbrev pub OutcomeAnswers : List (List ℕ) → Type 0
+OutcomeAnswers words =
+    (files : Files) (before now : Option (List Reply)) (status : Status)
+    (new : Option Files) (said says : Option (List ℕ))
+    → asks_world (named_by words) ≡ false
+    → Answers (ComesTo files (named_by words) before now) status files new said says
+    → Ends status (outcome words files)
+    × Says status said says (text_of (outcome words files))
+    × Leaves status files new (outcome words files)
 
 -- ---- epochs
 

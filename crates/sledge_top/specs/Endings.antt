@@ -1,5 +1,5 @@
 -- How a command ends, what it says and what it leaves, by what its words and the files come to.
-use Rattle.std.specs.Prelude.{◌≡◌, ℕ, List, Option, Some, None, Result, Err, IsOk, IsSomeAnd, ⊤}
+use Rattle.std.specs.Prelude.{◌≡◌, ◌⊎◌, ℕ, List, Option, Some, None, Result, Err, IsOk, IsSomeAnd, ⊤}
 use Rattle.sl_base.specs.Files.{Files, SameButAt}
 use Rattle.sl_base.specs.Written.{Adds, AddsPrefix}
 use Rattle.sl_base.specs.declared.refused.Refused.{Refused}
@@ -8,7 +8,7 @@ use Rattle.report.specs.declared.status.Refusal.{Refusal}
 use Rattle.report.specs.declared.status.Refusal.TheVariants as refusal
 use Rattle.report.specs.declared.status.Status.{Status}
 use Rattle.report.specs.declared.status.Status.TheVariants as status
-use Rattle.sledge_top.specs.Done.{Put, Done, put_of, with_put}
+use Rattle.sledge_top.specs.Done.{Put, Done, text_of, put_of, with_put}
 
 -- A command ends as it comes to. Memory may be wanting at any place, and the store may fail; the
 -- first output can only fail where there is a text.
@@ -44,6 +44,34 @@ Leaves status.Ok files new defined = new ≡ Some (with_put files (put_of define
 Leaves status.SinkFault files new defined = new ≡ Some (with_put files (put_of defined))
 Leaves status.StoreFault files new defined = KeepsOthers (put_of defined) files new
 Leaves other files new defined = new ≡ Some files
+
+-- A command with this status ends as it comes to, says it, and leaves the files so.
+pub record Does (status : Status) (files : Files) (new : Option Files)
+    (said says : Option (List ℕ)) (defined : Result Done Refusal) : Type 0 where
+  pub ends : Ends status defined
+  pub text : Says status said says (text_of defined)
+  pub leaves : Leaves status files new defined
+
+-- want of memory, and a fault of the store
+abbrev pub IsCutOff : Status → Type 0
+IsCutOff status.StoreFault = ⊤
+IsCutOff status.Memory = ⊤
+IsCutOff other = ⊥
+
+-- A command may be cut off before it comes to anything: it says nothing, and no file is changed.
+pub record GivesUp (status : Status) (files : Files) (new : Option Files)
+    (said says : Option (List ℕ)) : Type 0 where
+  pub cut_off : IsCutOff status
+  pub silent : says ≡ said
+  pub same : new ≡ Some files
+
+-- a command does something of this kind, or it is cut off before
+abbrev pub Answers :
+    (Result Done Refusal → Type 0) → Status → Files → Option Files
+    → Option (List ℕ) → Option (List ℕ) → Type 0
+Answers Is status files new said says =
+    ((defined : Result Done Refusal) × Is defined × Does status files new said says defined)
+    ⊎ GivesUp status files new said says
 
 -- a refusal for another reason than the words
 abbrev pub IsLater : Refusal → Type 0

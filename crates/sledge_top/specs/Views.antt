@@ -25,6 +25,18 @@ Comes view (Err (failure.Refused why)) defined = defined ≡ Err why
 Comes view (Err failure.StoreFault) defined = ⊤
 Comes view (Err failure.Memory) defined = ⊤
 
+-- the same of a command, where what it comes to is of a kind
+abbrev pub ComesSo : (Result Done Refusal → Type 0) → Result GivenDone Failure → Type 0
+ComesSo Is (Ok done) = Is (Ok (done_view done))
+ComesSo Is (Err (failure.Refused why)) = Is (Err why)
+ComesSo Is (Err failure.StoreFault) = ⊤
+ComesSo Is (Err failure.Memory) = ⊤
+
+abbrev pub MaySo : (Result Done Refusal → Type 0) → Result GivenDone (Refused Refusal) → Type 0
+MaySo Is (Ok done) = Is (Ok (done_view done))
+MaySo Is (Err (refused.Fault why)) = Is (Err why)
+MaySo Is (Err refused.Memory) = ⊤
+
 -- a refusal or want of memory, as the failure that it is
 abbrev pub failure_of : Refused Refusal → Failure
 failure_of (refused.Fault why) = failure.Refused why

@@ -1,19 +1,20 @@
 //! The commands.
 
-ghost use Rattle.std.specs.Prelude.{◌≡◌, ◌≤◌, ◌⊎◌, List, ℕ, IfErr, IfSome, Some, None, IsErrOf, false};
+ghost use Rattle.std.specs.Prelude.{◌≡◌, ◌≤◌, ◌⊎◌, List, ℕ, IfSome, None, IsErrOf, false};
 ghost use Rattle.sl_base.specs.Faults.{Rose};
 ghost use Rattle.sl_base.specs.Written.{Adds, AddsPrefix};
 ghost use Rattle.report.specs.Status.{fault_line};
 ghost use Rattle.cli_words.specs.Orders.{Fits};
 ghost use Rattle.cli_words.specs.Views.{texts, words_view, trace_view, order_view};
-ghost use Rattle.sledge_top.specs.Done.{text_of};
-ghost use Rattle.sledge_top.specs.Answer.{is_all, is_plain_trace, where_built, named_by, ordered, outcome, asks_world, SameAnswer};
-ghost use Rattle.sledge_top.specs.Endings.{Ends, Says, IsSilent, Leaves};
-ghost use Rattle.sledge_top.specs.Views.{done_view, Comes};
+ghost use Rattle.sledge_top.specs.Answer.{is_all, is_plain_trace, where_built, named_by, asks_world, ComesTo, SameAnswer, OutcomeAnswers};
+ghost use Rattle.sledge_top.specs.Endings.{IsSilent, Answers};
+ghost use Rattle.sledge_top.specs.Views.{ComesSo};
 
 use crate::assemble::asm;
 use crate::done::{Done, finish};
 use crate::failure::Failure;
+use crate::recording::record_image;
+use crate::recutting::recut;
 use crate::show::show;
 use crate::trace::{check, replay, trace_at};
 use cli_words::{Order, TraceOptions, read_words};
@@ -41,14 +42,16 @@ fn is_plain_trace(options: &TraceOptions<'_>) -> bool
 
 /// Does a command but for its file and its text. Words of commands that are not built yet name
 /// none.
-fn done_by<'a, S: Store>(
+fn done_by<'a, S: Store, W: World>(
     alloc: Global,
     order: &Order<'a>,
     store: &mut S,
+    world: &mut W,
 ) -> Result<Done<'a>, Failure>
     requires { Fits (order_view order.now) }
     ensures answer { IfSome (S.told store.old) (λ files.
-        Comes done_view result (ordered files (where_built (order_view order.now)))) }
+        ComesSo (ComesTo files (where_built (order_view order.now))
+        (W.replies world.old) (W.replies world.new)) result) }
     ensures usage { IsErrOf result (Failure.Refused Refusal.Usage)
         → where_built (order_view order.now) ≡ None }
     ensures usage_always { where_built (order_view order.now) ≡ None
@@ -57,6 +60,8 @@ fn done_by<'a, S: Store>(
         → Rose (S.faults store.old) (S.faults store.new) }
     ensures faults { S.faults store.old ≤ S.faults store.new }
     ensures same { S.told store.new ≡ S.told store.old }
+    ensures world { asks_world (where_built (order_view order.now)) ≡ false
+        → W.replies world.new ≡ W.replies world.old }
 {
     match order {
         Order::TraceAt {
@@ -66,6 +71,16 @@ fn done_by<'a, S: Store>(
         } if is_plain_trace(options) => trace_at(alloc, recording, *address, options.epochs, store),
         Order::Replay { recording } => replay(alloc, recording, store),
         Order::Check { recording } => check(alloc, recording, store),
+        Order::Record {
+            image,
+            output,
+            options,
+        } => record_image(alloc, image, output, options, store, world),
+        Order::Recut {
+            recording,
+            output,
+            every,
+        } => recut(alloc, recording, output, *every, store),
         Order::Show {
             image,
             address,
@@ -78,28 +93,33 @@ fn done_by<'a, S: Store>(
 }
 
 /// Does a command but for the line of the second output.
-fn run<S: Store, O: Sink>(alloc: Global, words: &[String], store: &mut S, out: &mut O) -> Status
+fn run<S: Store, W: World, O: Sink>(
+    alloc: Global,
+    words: &[String],
+    store: &mut S,
+    world: &mut W,
+    out: &mut O,
+) -> Status
     ensures usage { result ≡ Status.Refused Refusal.Usage → named_by (texts words.now) ≡ None }
     ensures usage_always { named_by (texts words.now) ≡ None
         → (result ≡ Status.Refused Refusal.Usage) ⊎ (result ≡ Status.Memory) }
-    ensures ending { IfSome (S.told store.old) (λ files.
-        Ends result (outcome (texts words.now) files)) }
+    ensures answer { IfSome (S.told store.old) (λ files.
+        Answers (ComesTo files (named_by (texts words.now))
+        (W.replies world.old) (W.replies world.new))
+        result files (S.told store.new) (O.written out.old) (O.written out.new)) }
     ensures store_fault { result ≡ Status.StoreFault
         → Rose (S.faults store.old) (S.faults store.new) }
     ensures sink_fault { result ≡ Status.SinkFault → Rose (O.faults out.old) (O.faults out.new) }
-    ensures output { IfSome (S.told store.old) (λ files.
-        Says result (O.written out.old) (O.written out.new)
-        (text_of (outcome (texts words.now) files))) }
     ensures silent { IsSilent result → O.written out.new ≡ O.written out.old }
-    ensures files { IfSome (S.told store.old) (λ files.
-        Leaves result files (S.told store.new) (outcome (texts words.now) files)) }
+    ensures world { asks_world (named_by (texts words.now)) ≡ false
+        → W.replies world.new ≡ W.replies world.old }
 {
     let order = match read_words(alloc, words) {
         Ok(order) => order,
         Err(Refused::Fault(_)) => return Status::Refused(Refusal::Usage),
         Err(Refused::Memory) => return Status::Memory,
     };
-    match done_by(alloc, &order, store) {
+    match done_by(alloc, &order, store, world) {
         Ok(done) => finish(alloc, &done, store, out),
         Err(Failure::Refused(why)) => Status::Refused(why),
         Err(Failure::StoreFault) => Status::StoreFault,
@@ -116,7 +136,7 @@ pub fn sledge<R: Threads + Sync, S: Store, W: World, O: Sink, E: Sink, G: Gate>(
     alloc: Global,
     words: &[String],
     store: &mut S,
-    _world: &mut W,
+    world: &mut W,
     out: &mut O,
     err: &mut E,
     _gate: &G,
@@ -126,21 +146,24 @@ pub fn sledge<R: Threads + Sync, S: Store, W: World, O: Sink, E: Sink, G: Gate>(
     ensures usage_always { named_by (texts words.now) ≡ None
         → (result ≡ Status.Refused Refusal.Usage) ⊎ (result ≡ Status.Memory) }
 
-    // Where the store tells its files, the command ends as the words and the files come to; memory
-    // alone may be wanting for no reason.
-    ensures ending { IfSome (S.told store.old) (λ files.
-        Ends result (outcome (texts words.now) files)) }
+    // Where the store tells its files, the command comes to its outcome, and the one that records to
+    // a recording over the replies of the world. It ends as it comes to, the first output gains its
+    // whole text, and the files have the one that is put. After a fault of the first output that
+    // has some of the text from the first byte on; after a refusal nothing was written, and the
+    // files are as before; after a fault of the store the file that was to be put may have any bytes
+    // or none. Memory alone may be wanting for no reason, and then nothing was written or put.
+    ensures answer { IfSome (S.told store.old) (λ files.
+        Answers (ComesTo files (named_by (texts words.now))
+        (W.replies world.old) (W.replies world.new))
+        result files (S.told store.new) (O.written out.old) (O.written out.new)) }
 
     // A fault of the store or of the first output comes only where its count of faults rose.
     ensures store_fault { result ≡ Status.StoreFault
         → Rose (S.faults store.old) (S.faults store.new) }
     ensures sink_fault { result ≡ Status.SinkFault → Rose (O.faults out.old) (O.faults out.new) }
 
-    // The first output gains the whole text, after a fault of it some of the text from the first
-    // byte on, and after every other ending nothing, whatever the store tells.
-    ensures output { IfSome (S.told store.old) (λ files.
-        Says result (O.written out.old) (O.written out.new)
-        (text_of (outcome (texts words.now) files))) }
+    // After every ending but `Ok` and a fault of the first output that has gained nothing, whatever
+    // the store tells.
     ensures silent { IsSilent result → O.written out.new ≡ O.written out.old }
 
     // The second output gains the whole line of the ending, or where its count of faults rose some,
@@ -149,16 +172,11 @@ pub fn sledge<R: Threads + Sync, S: Store, W: World, O: Sink, E: Sink, G: Gate>(
         ⊎ (Rose (E.faults err.old) (E.faults err.new)
         × AddsPrefix (E.written err.old) (E.written err.new) (fault_line result)) }
 
-    // The files have the one that is put, and after a refusal they are as before. After a fault of
-    // the store the one that was to be put may have any bytes or none.
-    ensures files { IfSome (S.told store.old) (λ files.
-        Leaves result files (S.told store.new) (outcome (texts words.now) files)) }
-
     // The world is asked by the command that records alone.
     ensures world { asks_world (named_by (texts words.now)) ≡ false
-        → W.replies _world.new ≡ W.replies _world.old }
+        → W.replies world.new ≡ W.replies world.old }
 {
-    let status = run(alloc, words, store, out);
+    let status = run(alloc, words, store, world, out);
     let _ = write_fault(err, &status);
     status
 }
@@ -166,4 +184,10 @@ pub fn sledge<R: Threads + Sync, S: Store, W: World, O: Sink, E: Sink, G: Gate>(
 /// Words that differ in `--epochs` alone have one answer, whatever the files are.
 pub fn same_answer()
     ensures { (first second : List (List ℕ)) → SameAnswer first second }
+{}
+
+/// A command that does not ask the world ends as its words and the files come to, says it, and leaves
+/// the files so: its answer is the one that they name alone.
+pub fn answers_are_outcomes()
+    ensures { (words : List (List ℕ)) → OutcomeAnswers words }
 {}

@@ -5,12 +5,14 @@ mod assemble;
 mod command;
 mod done;
 mod failure;
+mod recording;
+mod recutting;
 mod runs;
 mod show;
 mod store;
 mod trace;
 
-pub use command::{same_answer, sledge};
+pub use command::{answers_are_outcomes, same_answer, sledge};
 pub use report::{Refusal, Status, write_fault};
 
 #[cfg(test)]

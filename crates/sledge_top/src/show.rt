@@ -24,7 +24,7 @@ use sl_model::{Bus, STACK_END, STACK_START};
 use std::alloc::Global;
 
 /// The most bytes of an image.
-const IMAGE_LIMIT: u64 = 67_108_864;
+pub const IMAGE_LIMIT: u64 = 67_108_864;
 
 /// The word at an address of a program's memory, without the stack.
 fn word_at(memory: &Frames, address: u32) -> Option<u32>
@@ -97,7 +97,7 @@ fn image_from(alloc: Global, flat: Option<u32>, bytes: &[u8]) -> Result<Image, R
 }
 
 /// The same, or how the command is refused.
-fn image_or_refusal(
+pub fn image_or_refusal(
     alloc: Global,
     flat: Option<u32>,
     bytes: &[u8],

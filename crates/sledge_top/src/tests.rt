@@ -1,6 +1,7 @@
 //! Commands over stores in memory, with outputs that were worked by hand.
 
 mod assembled;
+mod recorded;
 mod recordings;
 mod refusals;
 mod running;

@@ -88,7 +88,7 @@ fn broken_by(first: Break) -> Refusal
 }
 
 /// What tracers leave on the replay of a plan, or how the command is refused.
-fn replay_plan(alloc: Global, plan: &Plan) -> Result<Seq<Record>, Refused<Refusal>>
+pub fn replay_plan(alloc: Global, plan: &Plan) -> Result<Seq<Record>, Refused<Refusal>>
     ensures records { Gives (λ records. records) result
         (refused_by (λ first. broken_by first first.kind) (run_in plan.now)) }
     ensures later { IfErr result IsLaterFault }
@@ -138,7 +138,7 @@ fn checkpoints_of(alloc: Global, rec: Recording, image: &Image) -> Result<Checkp
 
 /// A recording and its image, cut into at most so many epochs, or into one for each interval
 /// between checkpoints.
-fn plan_of(
+pub fn plan_of(
     alloc: Global,
     rec: Recording,
     image: Image,
@@ -150,6 +150,7 @@ fn plan_of(
     requires epochs { IfSome epochs (λ n. (1 ≤ n) × (n ≤ 4096)) }
     ensures recording { IfOk result (λ plan. plan.checkpoints.rec ≡ rec) }
     ensures opened { IfOk result (λ plan. opened_of plan.checkpoints ≡ opening image rec.args) }
+    ensures image { IfOk result (λ plan. plan.image ≡ image) }
     ensures address { IfOk result (λ plan. plan.address ≡ address) }
 {
     let checkpoints = checkpoints_of(alloc, rec, &image)?;
@@ -208,7 +209,7 @@ fn recorded(alloc: Global, bytes: &[u8]) -> Result<(Recording, Image), Refused<R
 }
 
 /// The recording and the image of a file.
-fn recorded_in<S: Store>(
+pub fn recorded_in<S: Store>(
     alloc: Global,
     name: &str,
     store: &mut S,

@@ -1,8 +1,7 @@
 //! Sources that are assembled, and the files that are put.
 
-use super::running::{store_of, words_of};
-use crate::sledge;
-use sl_base::{MemorySink, MemoryStore, MemoryWorld, NoGate};
+use super::running::{store_of, told_over};
+use sl_base::{MemoryStore, MemoryWorld};
 use std::alloc::Global;
 use std::process::Abort;
 use std::test::Fail;
@@ -15,17 +14,8 @@ fn told<R: Threads + Sync>(
     store: &mut MemoryStore,
     words: &str,
 ) -> Result<Vec<u8>, Fail> {
-    let mut out = MemorySink::new(alloc, 300, Vec::new(alloc))?;
-    let mut err = MemorySink::new(alloc, 150, Vec::new(alloc))?;
     let mut world = MemoryWorld::new(Vec::new(alloc));
-    let words = words_of(alloc, words)?;
-    let status = sledge(
-        rt, alloc, &words, store, &mut world, &mut out, &mut err, &NoGate,
-    );
-    let mut text = format!(in alloc; "{} ", status.code())?.into_bytes();
-    text.extend_from_slice(out.bytes())?;
-    text.extend_from_slice(err.bytes())?;
-    Ok(text)
+    told_over(rt, alloc, store, &mut world, words)
 }
 
 /// Checks how `asm` of a source ends, and what `show` says of the file that is put.

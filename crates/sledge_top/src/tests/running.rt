@@ -1,4 +1,4 @@
-//! Runs commands over a file in memory.
+//! Runs commands over files in memory.
 
 use crate::sledge;
 use sl_base::{MemorySink, MemoryStore, MemoryWorld, NoGate};
@@ -27,8 +27,26 @@ pub fn store_of(
     Ok(MemoryStore::new(files, Vec::from_slice(alloc, failing)?))
 }
 
-/// The number, the first and the second output of a command over the file `a.rec`, as one text: the
-/// number, a blank, and what was written.
+/// The number, the first and the second output of a command over a store and a world, as one text:
+/// the number, a blank, and what was written.
+pub fn told_over<R: Threads + Sync>(
+    rt: &R,
+    alloc: Global,
+    store: &mut MemoryStore,
+    world: &mut MemoryWorld,
+    words: &str,
+) -> Result<Vec<u8>, Fail> {
+    let mut out = MemorySink::new(alloc, 300, Vec::new(alloc))?;
+    let mut err = MemorySink::new(alloc, 150, Vec::new(alloc))?;
+    let words = words_of(alloc, words)?;
+    let status = sledge(rt, alloc, &words, store, world, &mut out, &mut err, &NoGate);
+    let mut text = format!(in alloc; "{} ", status.code())?.into_bytes();
+    text.extend_from_slice(out.bytes())?;
+    text.extend_from_slice(err.bytes())?;
+    Ok(text)
+}
+
+/// The same of a command over the file `a.rec`.
 fn told<R: Threads + Sync>(
     rt: &R,
     alloc: Global,
@@ -36,17 +54,8 @@ fn told<R: Threads + Sync>(
     words: &str,
 ) -> Result<Vec<u8>, Fail> {
     let mut store = store_of(alloc, "a.rec", bytes, &[])?;
-    let mut out = MemorySink::new(alloc, 300, Vec::new(alloc))?;
-    let mut err = MemorySink::new(alloc, 150, Vec::new(alloc))?;
     let mut world = MemoryWorld::new(Vec::new(alloc));
-    let words = words_of(alloc, words)?;
-    let status = sledge(
-        rt, alloc, &words, &mut store, &mut world, &mut out, &mut err, &NoGate,
-    );
-    let mut text = format!(in alloc; "{} ", status.code())?.into_bytes();
-    text.extend_from_slice(out.bytes())?;
-    text.extend_from_slice(err.bytes())?;
-    Ok(text)
+    told_over(rt, alloc, &mut store, &mut world, words)
 }
 
 /// Whether a command over the file `a.rec` ends with the number that begins this text, and writes

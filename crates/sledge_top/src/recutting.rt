@@ -1,0 +1,106 @@
+//! The command that gives a recording other checkpoints.
+
+ghost use Rattle.std.specs.Prelude.{◌≡◌, ◌≤◌, IfOk, IfErr, IfSome, IsErrOf};
+ghost use Rattle.sl_base.specs.Faults.{Rose};
+ghost use Rattle.sl_base.specs.Refusals.{Gives};
+ghost use Rattle.elf_image.specs.Loadable.{IsLoadable};
+ghost use Rattle.rec_format.specs.Rules.{IsRecordingValue};
+ghost use Rattle.replay.specs.Breaks.{first_break};
+ghost use Rattle.replay.specs.Opening.{opening};
+ghost use Rattle.cli_words.specs.Orders.{IsDistance};
+ghost use Rattle.sledge_top.specs.Answer.{unless_broken, recut_by, recut_from, recut};
+ghost use Rattle.sledge_top.specs.Endings.{IsLaterFault};
+ghost use Rattle.sledge_top.specs.Views.{done_view, Comes, IsLaterFailure};
+
+use crate::done::Done;
+use crate::failure::Failure;
+use crate::recording::put_recording;
+use crate::trace::{plan_of, recorded_in, replay_plan};
+use call_recorder::recut as recut_run;
+use elf_image::Image;
+use epoch_run::Plan;
+use rec_format::Recording;
+use report::Refusal;
+use sl_base::{Refused, Store};
+use std::alloc::Global;
+
+/// A recording and its image, where it replays without a break.
+fn unbroken(
+    alloc: Global,
+    rec: Recording,
+    image: Image,
+) -> Result<(Recording, Image), Refused<Refusal>>
+    requires rules { IsRecordingValue rec }
+    requires image { IsLoadable image }
+    ensures value { Gives (λ both. both) result
+        (unless_broken (rec, image) (first_break rec (opening image rec.args))) }
+    ensures later { IfErr result IsLaterFault }
+{
+    let plan = plan_of(alloc, rec, image, 0, None)?;
+    let _ = replay_plan(alloc, &plan)?;
+    let Plan {
+        image,
+        checkpoints,
+        ..
+    } = plan;
+    Ok((checkpoints.rec, image))
+}
+
+/// The same run with checkpoints at another distance, or how the command is refused.
+fn recut_by(
+    alloc: Global,
+    rec: Recording,
+    image: Image,
+    every: u64,
+) -> Result<Recording, Refused<Refusal>>
+    requires rules { IsRecordingValue rec }
+    requires image { IsLoadable image }
+    requires every { IsDistance every }
+    ensures value { Gives (λ recut. recut) result (recut_by every rec (opening image rec.args)) }
+    ensures rules { IfOk result IsRecordingValue }
+    ensures later { IfErr result IsLaterFault }
+{
+    let (rec, image) = unbroken(alloc, rec, image)?;
+    Ok(recut_run(alloc, rec, &image, every)?)
+}
+
+/// The file of the same run with checkpoints at another distance, under a name.
+fn recut_from<'a>(
+    alloc: Global,
+    rec: Recording,
+    image: Image,
+    every: u64,
+    output: &'a str,
+) -> Result<Done<'a>, Refused<Refusal>>
+    requires rules { IsRecordingValue rec }
+    requires image { IsLoadable image }
+    requires every { IsDistance every }
+    ensures value { Gives done_view result
+        (recut_from output.now every rec (opening image rec.args)) }
+    ensures later { IfErr result IsLaterFault }
+{
+    let new = recut_by(alloc, rec, image, every)?;
+    put_recording(alloc, &new, output)
+}
+
+/// `recut RECORDING OUTPUT`: replays a recording, and puts the same run with checkpoints at another
+/// distance.
+pub fn recut<'a, S: Store>(
+    alloc: Global,
+    name: &str,
+    output: &'a str,
+    every: u64,
+    store: &mut S,
+) -> Result<Done<'a>, Failure>
+    requires { IsDistance every }
+    ensures answer { IfSome (S.told store.old) (λ files.
+        Comes done_view result (recut files name.now output.now every)) }
+    ensures failed { IsErrOf result Failure.StoreFault
+        → Rose (S.faults store.old) (S.faults store.new) }
+    ensures later { IfErr result IsLaterFailure }
+    ensures faults { S.faults store.old ≤ S.faults store.new }
+    ensures same { S.told store.new ≡ S.told store.old }
+{
+    let (rec, image) = recorded_in(alloc, name, store)?;
+    Ok(recut_from(alloc, rec, image, every, output)?)
+}

@@ -1,0 +1,293 @@
+//! Programs that are recorded, and recordings that are cut anew.
+
+use super::recordings::words;
+use super::running::told_over;
+use rec_format::{Recording, read_recording};
+use sl_base::{MemoryStore, MemoryWorld, Reply, Seq};
+use std::alloc::Global;
+use std::process::Abort;
+use std::test::Fail;
+use std::thread::Threads;
+
+/// A store with these files, whose calls with these numbers fail.
+fn store_with(alloc: Global, rows: &[(&str, &[u8])], failing: &[u32]) -> Result<MemoryStore, Fail> {
+    let mut files = Vec::new(alloc);
+    for (name, bytes) in rows {
+        files.push((String::from_str(alloc, name)?, bytes.to_vec(alloc)?))?;
+    }
+    Ok(MemoryStore::new(files, Vec::from_slice(alloc, failing)?))
+}
+
+/// Runs commands one after the other over a store and a world. Each row is the words of a command,
+/// and then the number that it ends with and what it writes, with `|` for each line feed.
+fn run_all<R: Threads + Sync + Abort>(
+    rt: &R,
+    alloc: Global,
+    store: &mut MemoryStore,
+    world: &mut MemoryWorld,
+    rows: &str,
+) -> Result<(), Fail> {
+    for row in rows.lines() {
+        let (words, text) = row.split_once(" => ").ok_or("no row")?;
+        let mut told = told_over(rt, alloc, store, world, words)?;
+        for byte in &mut told {
+            if *byte == b'\n' {
+                *byte = b'|';
+            }
+        }
+        assert_eq!(rt; told.as_slice(), text.as_bytes(), "{row}");
+    }
+    Ok(())
+}
+
+/// The bytes of a file in a store.
+fn bytes_of(alloc: Global, store: &MemoryStore, name: &str) -> Result<Vec<u8>, Fail> {
+    Ok(store.file(name).ok_or("no file")?.to_vec(alloc)?)
+}
+
+/// The recording in a file of a store.
+fn recording_in(alloc: Global, store: &MemoryStore, name: &str) -> Result<Recording, Fail> {
+    match read_recording(alloc, store.file(name).ok_or("no file")?) {
+        Ok(rec) => Ok(rec),
+        Err(_) => Err("no recording".into()),
+    }
+}
+
+/// Loads 5 into a0 and exits.
+const EXITS: &str = "00500513 05d00893 73";
+
+/// Programs that end in each way, and recordings that are cut anew.
+const COMMANDS: &str = "\
+record exits r1.rec --flat 10000 => 0 recorded 3 exited 0x00000005|
+check r1.rec => 0 checked 0 calls, 0 checkpoints, end 3|
+replay r1.rec => 0 end,exited,3,,0x0001000c,,0x00000005|\
+regs,x,,,,,x2=0x7fffffe0 x10=0x00000005 x17=0x0000005d|
+recut r1.rec r2.rec --every 2 => 0 recorded 3 exited 0x00000005|
+check r2.rec => 0 checked 0 calls, 1 checkpoints, end 3|
+record exits r3.rec --flat 0x10000 --every 2 => 0 recorded 3 exited 0x00000005|
+recut r3.rec r4.rec => 0 recorded 3 exited 0x00000005|
+record exits s.rec --flat 10000 --limit 2 => 0 recorded 2 stopped 0x00000000|
+recut s.rec s.rec --every 1 => 0 recorded 2 stopped 0x00000000|
+check s.rec => 0 checked 0 calls, 1 checkpoints, end 2|
+replay s.rec => 0 end,stopped,2,,0x00010008,,0x00000000|\
+regs,x,,,,,x2=0x7fffffe0 x10=0x00000005 x17=0x0000005d|
+record traps t.rec --flat 10000 => 0 recorded 1 trapped 0x00000002|
+replay t.rec => 0 end,trapped,1,,0x00010004,,0x00000002|regs,x,,,,,x2=0x7fffffe0 x10=0x00000005|
+record exits a.rec --flat 10000 --arg ab => 0 recorded 3 exited 0x00000005|
+replay a.rec => 0 end,exited,3,,0x0001000c,,0x00000005|\
+regs,x,,,,,x2=0x7fffffd0 x10=0x00000005 x17=0x0000005d|
+";
+
+#[test]
+fn ends(rt: HostRuntime) -> Result<(), Fail> {
+    let alloc = rt.alloc();
+    let exits = words(alloc, EXITS)?;
+    let traps = words(alloc, "00500513 0")?;
+    let mut store = store_with(alloc, &[("exits", &exits), ("traps", &traps)], &[])?;
+    let mut world = MemoryWorld::new(Vec::new(alloc));
+    run_all(&rt, alloc, &mut store, &mut world, COMMANDS)?;
+    let first = bytes_of(alloc, &store, "r1.rec")?;
+    assert_eq!(rt; first.len(), 204);
+    assert!(rt; bytes_of(alloc, &store, "r4.rec")?.as_slice() == first.as_slice());
+    let second = bytes_of(alloc, &store, "r2.rec")?;
+    assert_eq!(rt; second.len(), 356);
+    assert!(rt; bytes_of(alloc, &store, "r3.rec")?.as_slice() == second.as_slice());
+    Ok(())
+}
+
+/// A put that fails leaves the other files, and may be tried again.
+const FAILING: &str = "\
+record exits r1.rec --flat 10000 => 10 sledge: store fault|
+check r1.rec => 2 sledge: absent: r1.rec|
+record exits r1.rec --flat 10000 => 0 recorded 3 exited 0x00000005|
+recut r1.rec r2.rec --every 2 => 10 sledge: store fault|
+check r1.rec => 0 checked 0 calls, 0 checkpoints, end 3|
+check r2.rec => 2 sledge: absent: r2.rec|
+recut r1.rec r2.rec --every 2 => 10 sledge: store fault|
+recut r1.rec r2.rec --every 2 => 0 recorded 3 exited 0x00000005|
+";
+
+#[test]
+fn puts_that_fail(rt: HostRuntime) -> Result<(), Fail> {
+    let alloc = rt.alloc();
+    let exits = words(alloc, EXITS)?;
+    let mut store = store_with(alloc, &[("exits", &exits)], &[2, 7, 10])?;
+    let mut world = MemoryWorld::new(Vec::new(alloc));
+    run_all(&rt, alloc, &mut store, &mut world, FAILING)
+}
+
+/// A program as a small C library makes it.
+const LIBRARY: &str = "\
+_start: li a0, 1
+la a1, buf
+li a7, 80
+ecall
+li a0, 0
+li a7, 214
+ecall
+lui t0, 1
+add a0, a0, t0
+ecall
+call put
+li a0, 0
+li a7, 93
+ecall
+put: li a0, 1
+la a1, msg
+li a2, 3
+li a7, 64
+ecall
+ret
+.data
+msg: .byte 104, 105, 10
+.balign 4
+buf: .space 128
+";
+
+const LIBRARY_COMMANDS: &str = "\
+asm p.s p.elf => 0 assembled 556 bytes|
+record p.elf p.rec => 0 recorded 22 exited 0x00000000|
+check p.rec => 0 checked 4 calls, 0 checkpoints, end 22|
+replay p.rec => 0 end,exited,22,,0x0001003c,,0x00000000|\
+regs,x,,,,,x1=0x00010030 x2=0x7fffffe0 x5=0x00001000 x11=0x00011000 x12=0x00000003 x17=0x0000005d|
+";
+
+#[test]
+fn small_library(rt: HostRuntime) -> Result<(), Fail> {
+    let alloc = rt.alloc();
+    let mut store = store_with(alloc, &[("p.s", LIBRARY.as_bytes())], &[])?;
+    let mut replies = Vec::new(alloc);
+    replies.push(Reply {
+        result: 3,
+        bytes: Seq::new(alloc),
+    })?;
+    let mut world = MemoryWorld::new(replies);
+    run_all(&rt, alloc, &mut store, &mut world, LIBRARY_COMMANDS)?;
+    let rec = recording_in(alloc, &store, "p.rec")?;
+    let calls: [(u32, u32, &[u8]); 4] = [
+        (80, 0xffff_ffda, &[]),
+        (214, 0x0001_2000, &[]),
+        (214, 0x0001_3000, &[]),
+        (64, 3, b"hi\n"),
+    ];
+    assert_eq!(rt; rec.calls.len(), 4);
+    for (entry, (number, result, bytes)) in rec.calls.as_slice().iter().zip(calls) {
+        assert_eq!(rt; entry.call.number, number);
+        assert_eq!(rt; entry.result, result);
+        assert_eq!(rt; entry.bytes.as_slice(), bytes);
+    }
+    Ok(())
+}
+
+/// Stores a word into a buffer and exits.
+const STORES: &str = "\
+_start: la t0, buf
+li t1, 0x01020304
+sw t1, 5(t0)
+li a7, 93
+ecall
+.data
+buf: .space 16
+";
+
+const STORES_COMMANDS: &str = "\
+asm a.s a.elf => 0 assembled 340 bytes|
+record a.elf a.rec --every 1 => 0 recorded 7 exited 0x00000000|
+check a.rec => 0 checked 0 calls, 6 checkpoints, end 7|
+";
+
+/// Where the checkpoints of a recording without arguments and calls begin.
+fn checkpoints_at(rec: &Recording) -> usize {
+    32usize.saturating_add(rec.image.len())
+}
+
+/// Checks that a recording with some of its bytes changed is refused.
+fn check_changed<R: Threads + Sync + Abort>(
+    rt: &R,
+    alloc: Global,
+    bytes: &[u8],
+    changes: &[(usize, u8)],
+    rows: &str,
+) -> Result<(), Fail> {
+    let mut bytes = bytes.to_vec(alloc)?;
+    for &(place, value) in changes {
+        *bytes.get_mut(place).ok_or("no such byte")? = value;
+    }
+    let mut store = store_with(alloc, &[("a", &bytes)], &[])?;
+    let mut world = MemoryWorld::new(Vec::new(alloc));
+    run_all(rt, alloc, &mut store, &mut world, rows)
+}
+
+const LISTED: &str = "\
+replay a => 9 sledge: checkpoint 5 differs at count 5, part 35, at 0x00011005: \
+recorded 0x00000005, replayed 0x00000004|
+recut a b => 9 sledge: checkpoint 5 differs at count 5, part 35, at 0x00011005: \
+recorded 0x00000005, replayed 0x00000004|
+replay b => 2 sledge: absent: b|
+";
+
+const REGISTER: &str = "\
+replay a => 9 sledge: checkpoint 3 differs at count 3, part 5, at 0x00000000: \
+recorded 0x00011001, replayed 0x00011000|
+recut a b => 9 sledge: checkpoint 3 differs at count 3, part 5, at 0x00000000: \
+recorded 0x00011001, replayed 0x00011000|
+";
+
+const END: &str = "\
+recut a b => 8 sledge: replay broken at count 7: end is exited 0x00000000, \
+recorded exited 0x00000009|
+";
+
+const COMPRESSED: &str = "\
+record a b => 5 sledge: image broken at 36: Compressed|
+record a b --flat 7ff00000 => 5 sledge: image broken at 0: Overlap|
+";
+
+#[test]
+fn changed_files(rt: HostRuntime) -> Result<(), Fail> {
+    let alloc = rt.alloc();
+    let mut store = store_with(alloc, &[("a.s", STORES.as_bytes())], &[])?;
+    let mut world = MemoryWorld::new(Vec::new(alloc));
+    run_all(&rt, alloc, &mut store, &mut world, STORES_COMMANDS)?;
+    let image = bytes_of(alloc, &store, "a.elf")?;
+    check_changed(&rt, alloc, &image, &[(36, 1)], COMPRESSED)?;
+    let bytes = bytes_of(alloc, &store, "a.rec")?;
+    let first = checkpoints_at(&recording_in(alloc, &store, "a.rec")?);
+    // Checkpoint 5 is the first that lists a page, and the bytes of the end stand behind the last.
+    let listed = first + 5 * 152 + 4 + 5;
+    let register = first + 2 * 152 + 28;
+    let end = bytes.len().saturating_sub(156);
+    check_changed(&rt, alloc, &bytes, &[(listed, 5)], LISTED)?;
+    check_changed(&rt, alloc, &bytes, &[(register, 1), (end, 9)], REGISTER)?;
+    check_changed(&rt, alloc, &bytes, &[(end, 9)], END)
+}
+
+/// Writes 65,536 bytes 4,096 times.
+const WRITES: &str = "\
+_start: li s0, 4096
+again: li a0, 1
+la a1, buf
+li a2, 65536
+li a7, 64
+ecall
+addi s0, s0, -1
+bnez s0, again
+li a7, 93
+ecall
+.data
+buf: .space 65536
+";
+
+const WRITES_COMMANDS: &str = "\
+asm a.s a.elf => 0 assembled 65908 bytes|
+record a.elf a.rec => 14 sledge: recording of 268649012 bytes is too large|
+check a.rec => 2 sledge: absent: a.rec|
+";
+
+#[test]
+fn too_large(rt: HostRuntime) -> Result<(), Fail> {
+    let alloc = rt.alloc();
+    let mut store = store_with(alloc, &[("a.s", WRITES.as_bytes())], &[])?;
+    let mut world = MemoryWorld::new(Vec::new(alloc));
+    run_all(&rt, alloc, &mut store, &mut world, WRITES_COMMANDS)
+}
