@@ -1,6 +1,6 @@
 //! The tracepoints that fire at one place.
 
-ghost use Rattle.std.specs.Prelude.{◌≡◌, ◌<◌, ◌≤◌, [], ◌∷◌, ◌++◌, length, take};
+ghost use Rattle.std.specs.Prelude.{◌≡◌, ◌<◌, ◌≤◌, ◌↔◌, IsTrue, [], ◌∷◌, ◌++◌, length, take};
 
 use std::marker::Model;
 
@@ -30,6 +30,14 @@ impl Fired {
             numbers: [0; 64],
             len: 0,
         }
+    }
+
+    /// Whether there is no number.
+    #[inline(always)]
+    pub fn is_empty(&self) -> bool
+        ensures { IsTrue result ↔ (self.now ≡ []) }
+    {
+        self.len == 0
     }
 
     /// The numbers, in order.
