@@ -8,4 +8,6 @@ mod Rows
 mod Stretch
 mod SoFar
 mod OneSegment
+mod Fired
+mod AtScript
 pub mod Planned

@@ -23,7 +23,8 @@ use Rattle.replay.specs.Breaks.{listed_break, listed_or, break_after}
 use Rattle.sl_model.specs.Mapping.{map_pages}
 use Rattle.rec_format.specs.Recorded.{end_place, listed_to, put_all_listed, recorded_state_of, recorded_state, checkpoint_at}
 use Rattle.rec_format.specs.Compared.{PartDiff, bytes_diff, page_diff, pages_diff, PAGE_NUMBERS, machine_diff, checkpoint_diff}
-use Rattle.epoch_run.specs.Records.{Tracers, emit_at, records_after}
+use Rattle.epoch_run.specs.Records.{Tracers, records_after}
+use Rattle.epoch_run.specs.AtScript.{emit_at}
 use Rattle.epoch_run.specs.Epochs.{epoch_break_from, epoch_break, epoch_records_from, epoch_records, epoch_value, value_of, between}
 
 -- ---- the program

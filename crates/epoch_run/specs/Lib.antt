@@ -4,3 +4,5 @@ pub mod EpochLaws
 pub mod Segments
 pub mod Plans
 pub mod Loaded
+pub mod Watched
+pub mod AtScript

@@ -5,6 +5,8 @@ use Rattle.std.proofs.lemmas.List.Elements.{All-map}
 use Rattle.sl_model.specs.State.{State}
 use Rattle.call_log.specs.declared.breaks.Break.{Break}
 use Rattle.tracer_lang.specs.declared.record.Record.{Record}
+use Rattle.tracer_lang.specs.Script.{tree_of}
+use Rattle.tracer_lang.specs.Firing.{records_at}
 use Rattle.rv_machine.specs.Machine.{state_of}
 use Rattle.checkpoints.specs.RecordedRun.{opened_of}
 use Rattle.epoch_core.specs.declared.post.PostValue.{PostValue}
@@ -12,13 +14,13 @@ use Rattle.epoch_core.specs.declared.post.PostValue.TheVariants.{Ran, Broke}
 use Rattle.epoch_core.specs.Posts.{IsOwn}
 use Rattle.epoch_run.specs.declared.plan.Plan.{Plan}
 use Rattle.epoch_run.specs.declared.plan.Worker.{Worker}
-use Rattle.epoch_run.specs.Records.{Tracers, emit_at}
+use Rattle.epoch_run.specs.Records.{Tracers}
 use Rattle.epoch_run.specs.Epochs.{epoch_size}
 use Rattle.epoch_run.specs.EpochLaws.{epochs_of, value_at}
 
--- what the tracers of a plan leave: register a0, at its address
+-- what the tracers of a plan leave: those of its script
 abbrev pub tracers_of : Plan → Tracers
-tracers_of plan = emit_at plan.address 10
+tracers_of plan = records_at (tree_of plan.script)
 
 -- the state that a worker's machine and memory are in
 abbrev pub state_in : Worker → State

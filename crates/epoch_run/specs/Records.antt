@@ -1,25 +1,16 @@
 -- What the tracers of a script leave on the run of a recording.
-use Rattle.std.specs.Prelude.{ℕ, zero, suc, ◌==◌, List, [], ◌∷◌, ◌++◌, if◌then◌else◌}
-use Rattle.sl_model.specs.State.{State, register}
+use Rattle.std.specs.Prelude.{ℕ, zero, suc, List, [], ◌++◌}
+use Rattle.sl_model.specs.State.{State}
 use Rattle.call_log.specs.declared.entry.End.{End}
 use Rattle.call_log.specs.declared.entry.End.TheVariants as end
 use Rattle.rec_format.specs.declared.recording.Recording.{Recording}
 use Rattle.tracer_lang.specs.declared.record.Record.{Record}
-use Rattle.tracer_lang.specs.declared.record.TracerEnd.TheVariants.{Done}
 use Rattle.replay.specs.Run.{Onward, Goes, Breaks, onward}
 
 -- what the tracepoints of a script leave at a state, in the order of the script: nothing where none
 -- fires
 abbrev pub Tracers : Type 0
 Tracers = State → List Record
-
--- a tracepoint at an address, which emits one register
-abbrev pub emit_at : ℕ → ℕ → Tracers
-emit_at address r s =
-    let words : List ℕ = register s r ∷ [] in
-    let left : Record =
-    record { count = s.count; point = 0; pc = s.pc; words = words; outcome = Done } in
-    if s.pc == address then left ∷ [] else []
 
 -- at the recorded end tracepoints fire where the end is a trap
 abbrev pub at_end : Tracers → End → State → List Record

@@ -9,6 +9,7 @@ ghost use Rattle.replay.specs.Breaks.{first_break};
 ghost use Rattle.rec_format.specs.Recorded.{end_place};
 ghost use Rattle.epoch_cut.specs.Places.{IsCutting};
 ghost use Rattle.epoch_run.specs.Records.{Tracers, records};
+ghost use Rattle.epoch_run.specs.AtScript.{AtEmits};
 ghost use Rattle.epoch_run.specs.Epochs.{epoch_break, epoch_records};
 ghost use Rattle.epoch_run.specs.EpochLaws.{BreaksJoin, RecordsJoin, StatesJoin, FirstBrokeIsFirst, AllRanAreTheRun, StartsOnTheRun, LeastBreakIsFirst, BreaksWithTheRun, RecordsOfTheRun, ComesToTheEnd};
 
@@ -74,4 +75,10 @@ pub fn values_are_the_run()
 pub fn runs_end_as_recorded()
     ensures { (rec : Recording) (opened : State)
         → IsRecordingValue rec → IsOpening opened → ComesToTheEnd rec opened }
+{}
+
+/// The script of one tracepoint that emits register a0 at an address leaves one record with that
+/// register wherever pc is at the address, and else nothing.
+pub fn at_emits()
+    ensures { AtEmits }
 {}

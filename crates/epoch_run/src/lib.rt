@@ -5,6 +5,7 @@ mod comparing;
 mod epoch;
 mod firing;
 mod laws;
+mod one_point;
 mod places;
 mod plan;
 mod running;
@@ -12,8 +13,9 @@ mod segment;
 
 pub use epoch::{PlanRuns, run_epoch};
 pub use laws::{
-    epochs_join, epochs_start_on_the_run, least_break_is_first, one_epoch_is_the_run,
+    at_emits, epochs_join, epochs_start_on_the_run, least_break_is_first, one_epoch_is_the_run,
     records_are_those_of_the_run, runs_end_as_recorded, values_are_the_run,
 };
+pub use one_point::at_script;
 pub use plan::{Plan, Worker};
 pub use running::run_between;

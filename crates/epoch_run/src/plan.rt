@@ -6,6 +6,7 @@ ghost use Rattle.rec_format.specs.Recorded.{end_place};
 ghost use Rattle.epoch_cut.specs.Places.{IsCutting};
 ghost use Rattle.epoch_run.specs.EpochLaws.{epochs_of};
 ghost use Rattle.epoch_run.specs.Loaded.{IsLoaded, IsLoaded-prop};
+ghost use Rattle.epoch_run.specs.Watched.{AreWatched, AreWatched-prop};
 
 use checkpoints::Checkpoints;
 use elf_image::Image;
@@ -15,8 +16,10 @@ use rv_machine::Machine;
 use sl_base::Memory;
 use sl_model::{Layout, RunState};
 use std::alloc::Global;
+use tracepoints::Points;
+use tracer_lang::Script;
 
-/// A recording, cut into epochs, with the tracer that runs on them.
+/// A recording, cut into epochs, with the script whose tracers run on them.
 #[derive(Drop)]
 pub struct Plan {
     /// The image that the program is loaded from.
@@ -26,10 +29,13 @@ pub struct Plan {
     pub checkpoints: Checkpoints,
     /// The places where the intervals between checkpoints are cut.
     pub cutting: Cutting,
-    /// Where the tracer records register a0.
-    pub address: u32,
+    /// The tracers.
+    pub script: Script,
+    /// The points of the script, at which they fire.
+    pub points: Points,
     ghost loaded: { IsLoaded image checkpoints } by { IsLoaded-prop image checkpoints },
     ghost cuts: { IsCutting (end_place checkpoints.rec) cutting },
+    ghost watched: { AreWatched points script } by { AreWatched-prop points script },
 }
 
 impl Plan {

@@ -18,6 +18,7 @@ use replay::advance_one;
 use sl_base::{Refused, Steps};
 use std::alloc::Global;
 use std::sync::ledger::Ledger;
+use tracepoints::Fired;
 use tracer_lang::Record;
 
 /// Why an instruction was not done, with the count at which it stands.
@@ -56,8 +57,9 @@ fn run_to<L: Ledger>(
         worker.new.f.pages worker.new.f.dirty) }
     ensures steps { steps.new + worker.old.m.count ≤ steps.old + upto }
 {
+    let mut fired = Fired::new();
     for done in worker.m.count..upto {
-        fire(alloc, plan, worker, records)?;
+        fire(alloc, plan, worker, &mut fired, records)?;
         let rec = &plan.checkpoints.rec;
         if let Err(stop) = advance_one(alloc, rec, &mut worker.m, &mut worker.f, steps) {
             return Err(stopped_at(done, stop));
