@@ -9,6 +9,8 @@ use Rattle.rec_format.specs.declared.fault.RecCause.{RecCause}
 use Rattle.rec_format.specs.declared.fault.RecCause.TheVariants as rec_cause
 use Rattle.elf_image.specs.declared.fault.ImageCause.{ImageCause}
 use Rattle.elf_image.specs.declared.fault.ImageCause.TheVariants as image_cause
+use Rattle.tracer_text.specs.declared.fault.ScriptCause.{ScriptCause}
+use Rattle.tracer_text.specs.declared.fault.ScriptCause.TheVariants as script_cause
 use Rattle.asm_text.specs.declared.fault.AsmCause.{AsmCause}
 use Rattle.asm_text.specs.declared.fault.AsmCause.TheVariants as asm_cause
 use Rattle.report.specs.Report.{end_kind, end_value}
@@ -24,6 +26,7 @@ refusal_code (refusal.Absent name) = 2
 refusal_code (refusal.TooLong limit name) = 3
 refusal_code (refusal.RecordingBroken fault) = 4
 refusal_code (refusal.ImageBroken fault) = 5
+refusal_code (refusal.ScriptRefused fault) = 6
 refusal_code (refusal.ReplayBroken first) = 8
 refusal_code (refusal.CheckpointDiffers first) = 9
 refusal_code (refusal.AsmRefused fault) = 13
@@ -68,6 +71,19 @@ image_cause_name image_cause.Interp = codes "Interp"
 image_cause_name image_cause.SegmentRange = codes "Segment range"
 image_cause_name image_cause.Overlap = codes "Overlap"
 image_cause_name image_cause.SymbolTable = codes "Symbol table"
+
+-- the name of a rule of scripts that a text breaks
+abbrev pub script_cause_name : ScriptCause → List ℕ
+script_cause_name script_cause.Byte = codes "Byte"
+script_cause_name script_cause.Paren = codes "Paren"
+script_cause_name script_cause.Form = codes "Form"
+script_cause_name script_cause.NameUnknown = codes "Name unknown"
+script_cause_name script_cause.NameDoubled = codes "Name doubled"
+script_cause_name script_cause.Arity = codes "Arity"
+script_cause_name script_cause.Number = codes "Number"
+script_cause_name script_cause.SymbolUnknown = codes "Symbol unknown"
+script_cause_name script_cause.TooLarge = codes "Too large"
+script_cause_name script_cause.TooDeep = codes "Too deep"
 
 -- the name of a rule of sources that a line breaks
 abbrev pub asm_cause_name : AsmCause → List ℕ
@@ -148,6 +164,13 @@ refusal_line (refusal.ImageBroken fault) =
     ∷ decimal fault.place
     ∷ codes ": "
     ∷ image_cause_name fault.cause
+    ∷ [])
+refusal_line (refusal.ScriptRefused fault) =
+    line_of
+    (codes "script refused at "
+    ∷ decimal fault.place
+    ∷ codes ": "
+    ∷ script_cause_name fault.cause
     ∷ [])
 refusal_line (refusal.ReplayBroken first) = break_line first.count first.kind
 refusal_line (refusal.CheckpointDiffers first) = break_line first.count first.kind

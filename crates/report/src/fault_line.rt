@@ -3,7 +3,7 @@
 ghost use Rattle.std.specs.Prelude.{◌≡◌, ◌≤◌, map, OnErr};
 ghost use Rattle.std.specs.List.{flat_map};
 ghost use Rattle.sl_base.specs.Faults.{Rose};
-ghost use Rattle.report.specs.Status.{line_of, rec_cause_name, image_cause_name, asm_cause_name, break_line, refusal_line, fault_line};
+ghost use Rattle.report.specs.Status.{line_of, rec_cause_name, image_cause_name, script_cause_name, asm_cause_name, break_line, refusal_line, fault_line};
 ghost use Rattle.report.specs.Pieces.{piece_text};
 ghost use Rattle.report.specs.Writing.{Writes};
 
@@ -14,6 +14,7 @@ use call_log::{BreakKind, End};
 use elf_image::ImageCause;
 use rec_format::RecCause;
 use sl_base::{Seq, Sink, SinkFailed, decimal_text, word_text, write_all};
+use tracer_text::ScriptCause;
 
 /// A piece of a line.
 #[derive(Clone, Copy)]
@@ -108,6 +109,24 @@ fn image_cause_name(cause: ImageCause) -> &'static str
         ImageCause::SegmentRange => "Segment range",
         ImageCause::Overlap => "Overlap",
         ImageCause::SymbolTable => "Symbol table",
+    }
+}
+
+/// The name of a rule of scripts that a text breaks.
+fn script_cause_name(cause: ScriptCause) -> &'static str
+    ensures { result.now ≡ script_cause_name cause }
+{
+    match cause {
+        ScriptCause::Byte => "Byte",
+        ScriptCause::Paren => "Paren",
+        ScriptCause::Form => "Form",
+        ScriptCause::NameUnknown => "Name unknown",
+        ScriptCause::NameDoubled => "Name doubled",
+        ScriptCause::Arity => "Arity",
+        ScriptCause::Number => "Number",
+        ScriptCause::SymbolUnknown => "Symbol unknown",
+        ScriptCause::TooLarge => "Too large",
+        ScriptCause::TooDeep => "Too deep",
     }
 }
 
@@ -265,6 +284,15 @@ fn write_refusal<O: Sink>(out: &mut O, why: &Refusal) -> Result<(), SinkFailed>
                 Index(fault.place),
                 Text(": "),
                 Text(image_cause_name(fault.cause)),
+            ],
+        ),
+        Refusal::ScriptRefused(fault) => write_line(
+            out,
+            &[
+                Text("script refused at "),
+                Index(fault.place),
+                Text(": "),
+                Text(script_cause_name(fault.cause)),
             ],
         ),
         Refusal::ReplayBroken(first) | Refusal::CheckpointDiffers(first) => {

@@ -5,6 +5,7 @@ use call_log::Break;
 use elf_image::ImageFault;
 use rec_format::RecFault;
 use sl_base::Seq;
+use tracer_text::ScriptFault;
 
 /// Why a command was refused: by its words, by a file, or by what a file says. Nothing was written
 /// to the first output then, and nothing was put.
@@ -20,6 +21,8 @@ pub enum Refusal {
     RecordingBroken(RecFault),
     /// The bytes are no image, by their first fault.
     ImageBroken(ImageFault),
+    /// The text is no script of the image, by its first fault.
+    ScriptRefused(ScriptFault),
     /// The replay first differs from the recording by a call or by its end.
     ReplayBroken(Break),
     /// The replay first differs from the recording at a checkpoint.
@@ -59,6 +62,7 @@ impl Refusal {
             Refusal::TooLong { .. } => 3,
             Refusal::RecordingBroken(_) => 4,
             Refusal::ImageBroken(_) => 5,
+            Refusal::ScriptRefused(_) => 6,
             Refusal::ReplayBroken(_) => 8,
             Refusal::CheckpointDiffers(_) => 9,
             Refusal::AsmRefused(_) => 13,

@@ -8,6 +8,7 @@ use sl_base::{MemorySink, Seq};
 use std::alloc::Global;
 use std::test::Fail;
 use tracer_lang::{Record, TracerEnd};
+use tracer_text::{ScriptCause, ScriptFault};
 
 /// Whether a command that ended so ends the program with this number and writes this line.
 fn tells(alloc: Global, status: &Status, code: u8, line: &str) -> Result<bool, Fail> {
@@ -75,6 +76,18 @@ fn refusals(rt: HostRuntime) -> Result<(), Fail> {
         cause: ImageCause::WrongType,
     });
     assert!(rt; refuses(alloc, why, 5, "sledge: image broken at 16: Type\n")?);
+    let why = Refusal::ScriptRefused(ScriptFault {
+        place: 19,
+        cause: ScriptCause::NameUnknown,
+    });
+    assert!(rt;
+        refuses(
+            alloc,
+            why,
+            6,
+            "sledge: script refused at 19: Name unknown\n"
+        )?
+    );
     let why = Refusal::CheckpointDiffers(Break {
         count: 2,
         kind: BreakKind::CheckpointDiffers {

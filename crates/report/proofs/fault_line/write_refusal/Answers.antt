@@ -15,6 +15,9 @@ returns-in-RecordingBroken-clause-written g c = rw (c.in-RecordingBroken.is, ←
 pub returns-in-ImageBroken-clause-written : goal.returns-in-ImageBroken-clause-written
 returns-in-ImageBroken-clause-written g c = rw (c.in-ImageBroken.is, ← c.image_cause_name.ensures) c.write_line-in-ImageBroken.ensures.written
 
+pub returns-in-ScriptRefused-clause-written : goal.returns-in-ScriptRefused-clause-written
+returns-in-ScriptRefused-clause-written g c = rw (c.in-ScriptRefused.is, ← c.script_cause_name.ensures) c.write_line-in-ScriptRefused.ensures.written
+
 pub returns-in-AsmRefused-clause-written : goal.returns-in-AsmRefused-clause-written
 returns-in-AsmRefused-clause-written g c = rw (c.in-AsmRefused.is, ← c.asm_cause_name.ensures) c.write_line-in-AsmRefused.ensures.written
 
