@@ -9,13 +9,15 @@ use Rattle.call_log.specs.declared.breaks.Break.{Break}
 use Rattle.rec_format.specs.declared.recording.Recording.{Recording}
 use Rattle.tracer_lang.specs.declared.record.Record.{Record}
 use Rattle.replay.specs.Breaks.{first_break}
-use Rattle.epoch_run.specs.Records.{Tracers, emit_at, records}
+use Rattle.tracer_lang.specs.Tree.{ScriptTree}
+use Rattle.tracer_lang.specs.Firing.{records_at}
+use Rattle.epoch_run.specs.Records.{Tracers, records}
 use Rattle.epoch_run.specs.EpochLaws.{IsAtEnd, ComesToTheEnd}
 use Rattle.report.specs.declared.status.Refusal.{Refusal}
 use Rattle.report.specs.RunEnd.{recorded_end}
 use Rattle.report.specs.Report.{all_lines, report}
 use Rattle.sledge_top.specs.Runs.{run_value, run_of}
-use Rattle.sledge_top.specs.Answer.{◌>>=◌, A0, refused_by, replayed, traced, replayed_alone, last_state, run_end, broken_by}
+use Rattle.sledge_top.specs.Answer.{◌>>=◌, refused_by, replayed, traced, replayed_alone, last_state, run_end, broken_by}
 
 -- the records of a run, or how the command is refused
 abbrev pub records_or_refusal : Recording → Tracers → State → Result (List Record) Refusal
@@ -38,11 +40,11 @@ came : (rec : Recording) (opened : State) (lines : List Record → List ℕ) (le
 came rec opened lines left None ends = ap (λ end. Ok (report (lines left) end)) (ends refl)
 came rec opened lines left (Some first) ends = refl
 
-pub traced_is : (rec : Recording) (address : ℕ) (opened : State) → ComesToTheEnd rec opened
-    → traced rec address opened ≡ (records_or_refusal rec (emit_at address A0) opened >>= λ all. Ok (report (all_lines 1 all) (recorded_end rec)))
+pub traced_is : (rec : Recording) (script : ScriptTree) (opened : State) → ComesToTheEnd rec opened
+    → traced rec script opened ≡ (records_or_refusal rec (records_at script) opened >>= λ all. Ok (report (all_lines 1 all) (recorded_end rec)))
 unfolding traced
-traced_is rec address opened comes =
-    came rec opened (all_lines 1) (records rec (emit_at address A0) opened) (first_break rec opened) (ends_so rec opened comes)
+traced_is rec script opened comes =
+    came rec opened (all_lines 1) (records rec (records_at script) opened) (first_break rec opened) (ends_so rec opened comes)
 
 pub replayed_alone_is : (rec : Recording) (tracers : Tracers) (opened : State) → ComesToTheEnd rec opened
     → replayed_alone rec opened ≡ (records_or_refusal rec tracers opened >>= λ all. Ok (report [] (recorded_end rec)))

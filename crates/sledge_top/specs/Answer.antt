@@ -17,10 +17,14 @@ use Rattle.call_log.specs.declared.breaks.BreakKind.TheVariants as kind
 use Rattle.rec_format.specs.declared.recording.Recording.{Recording}
 use Rattle.rec_format.specs.Reading.{reading}
 use Rattle.rec_format.specs.Spelling.{spelling}
+use Rattle.tracer_lang.specs.Tree.{ScriptTree}
+use Rattle.tracer_lang.specs.Firing.{records_at}
+use Rattle.tracer_read.specs.Scripts.{script_of_text}
 use Rattle.replay.specs.Opening.{opening}
 use Rattle.replay.specs.Run.{run_from}
 use Rattle.replay.specs.Breaks.{first_break}
-use Rattle.epoch_run.specs.Records.{Tracers, emit_at, records}
+use Rattle.epoch_run.specs.Records.{records}
+use Rattle.epoch_run.specs.AtScript.{at_tree}
 use Rattle.report.specs.declared.run_end.RunEnd.{RunEnd}
 use Rattle.report.specs.declared.status.Refusal.{Refusal}
 use Rattle.report.specs.declared.status.Refusal.TheVariants as refusal
@@ -28,7 +32,7 @@ use Rattle.report.specs.Report.{all_lines, report, checked_line, recorded_line}
 use Rattle.call_recorder.specs.declared.source.ImageSource.{ImageSource}
 use Rattle.call_recorder.specs.Recorded.{IsRecorded}
 use Rattle.call_recorder.specs.Recut.{recut_of}
-use Rattle.cli_words.specs.Orders.{Order, TraceOptions, RecordOptions, TraceAt, Replay, Check, Record, Recut, Asm, Show, order_of}
+use Rattle.cli_words.specs.Orders.{Order, TraceOptions, RecordOptions, Trace, TraceAt, Replay, Check, Record, Recut, Asm, Show, order_of}
 use Rattle.report.specs.declared.status.Status.{Status}
 use Rattle.sledge_top.specs.Done.{Done, only_text, text_of}
 use Rattle.sledge_top.specs.Endings.{Ends, Says, Leaves, Answers}
@@ -107,28 +111,52 @@ abbrev pub replayed : Recording → State → List ℕ → Option Break → Resu
 replayed rec opened lines (Some first) = Err (broken_by first first.kind)
 replayed rec opened lines None = Ok (report lines (run_end rec (last_state rec opened)))
 
--- the register that is recorded: a0
-abbrev pub A0 : ℕ
-A0 = 10
-
--- with the analysis `all` over what the tracers leave
-unfoldable pub traced : Recording → ℕ → State → Result (List ℕ) Refusal
-traced rec address opened =
-    replayed rec opened (all_lines 1 (records rec (emit_at address A0) opened))
+-- with the analysis `all` over what the tracers of a script leave
+unfoldable pub traced : Recording → ScriptTree → State → Result (List ℕ) Refusal
+traced rec script opened =
+    replayed rec opened (all_lines 1 (records rec (records_at script) opened))
     (first_break rec opened)
 
 -- without an analysis
 unfoldable pub replayed_alone : Recording → State → Result (List ℕ) Refusal
 replayed_alone rec opened = replayed rec opened [] (first_break rec opened)
 
+-- ---- scripts
+
+-- the most bytes of a script
+abbrev pub SCRIPT_LIMIT : ℕ
+SCRIPT_LIMIT = 65536
+
+-- the script that a text is, with the symbols of an image
+abbrev pub script_of : Image → List ℕ → Result ScriptTree Refusal
+script_of image text = refused_by refusal.ScriptRefused (script_of_text text image.symbols)
+
+-- the same of a file
+abbrev pub script_in : Files → Image → List ℕ → Result ScriptTree Refusal
+script_in files image name = do
+  text ← file_of files name SCRIPT_LIMIT
+  script_of image text
+
 -- ---- commands
+
+-- the report of a recording with the tracers of a script
+abbrev pub traced_with : Recording → Image → ScriptTree → Result Done Refusal
+traced_with rec image script = do
+  text ← traced rec script (opening image rec.args)
+  Ok (only_text text)
+
+-- `trace RECORDING SCRIPT`: the recording is read before the script
+abbrev pub trace_by : Files → List ℕ → List ℕ → Result Done Refusal
+trace_by files name script_name = do
+  both ← recorded_in files name
+  script ← script_in files both.1 script_name
+  traced_with both.0 both.1 script
 
 -- `trace RECORDING at HEX`
 abbrev pub trace_at : Files → List ℕ → ℕ → Result Done Refusal
 trace_at files name address = do
   both ← recorded_in files name
-  text ← traced both.0 address (opening both.1 both.0.args)
-  Ok (only_text text)
+  traced_with both.0 both.1 (at_tree address)
 
 -- `replay RECORDING`
 abbrev pub replay : Files → List ℕ → Result Done Refusal
@@ -286,6 +314,7 @@ is_plain_trace options = options.workers == 1 && is_all options.analyses
 
 -- the rows that are built so far; words of the others name no command
 abbrev pub is_built : Order → Bool
+is_built (Trace recording script options) = is_plain_trace options
 is_built (TraceAt recording address options) = is_plain_trace options
 is_built (Replay recording) = true
 is_built (Check recording) = true
@@ -304,6 +333,7 @@ named_by words = option_and_then where_built (order_of words)
 
 -- what a command comes to that does not ask the world
 abbrev pub done_by : Files → Order → Result Done Refusal
+done_by files (Trace recording script options) = trace_by files recording script
 done_by files (TraceAt recording address options) = trace_at files recording address
 done_by files (Replay recording) = replay files recording
 done_by files (Check recording) = check files recording
@@ -354,4 +384,12 @@ SameAnswer first second =
     (files : Files) (recording : List ℕ) (address : ℕ) (m n : TraceOptions)
     → named_by first ≡ Some (TraceAt recording address m)
     → named_by second ≡ Some (TraceAt recording address n)
+    → outcome first files ≡ outcome second files
+
+-- and so do two that name one recording and one script
+abbrev pub SameScriptAnswer : List (List ℕ) → List (List ℕ) → Type 0
+SameScriptAnswer first second =
+    (files : Files) (recording script : List ℕ) (m n : TraceOptions)
+    → named_by first ≡ Some (Trace recording script m)
+    → named_by second ≡ Some (Trace recording script n)
     → outcome first files ≡ outcome second files

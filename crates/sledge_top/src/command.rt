@@ -6,7 +6,7 @@ ghost use Rattle.sl_base.specs.Written.{Adds, AddsPrefix};
 ghost use Rattle.report.specs.Status.{fault_line};
 ghost use Rattle.cli_words.specs.Orders.{Fits};
 ghost use Rattle.cli_words.specs.Views.{texts, words_view, trace_view, order_view};
-ghost use Rattle.sledge_top.specs.Answer.{is_all, is_plain_trace, where_built, named_by, asks_world, ComesTo, SameAnswer, OutcomeAnswers};
+ghost use Rattle.sledge_top.specs.Answer.{is_all, is_plain_trace, where_built, named_by, asks_world, ComesTo, SameAnswer, SameScriptAnswer, OutcomeAnswers};
 ghost use Rattle.sledge_top.specs.Endings.{IsSilent, Answers};
 ghost use Rattle.sledge_top.specs.Views.{ComesSo};
 
@@ -16,7 +16,7 @@ use crate::failure::Failure;
 use crate::recording::record_image;
 use crate::recutting::recut;
 use crate::show::show;
-use crate::trace::{check, replay, trace_at};
+use crate::trace::{check, replay, trace_at, trace_by};
 use cli_words::{Order, TraceOptions, read_words};
 use report::{Refusal, Status, write_fault};
 use sl_base::{Gate, Refused, Sink, Store, World};
@@ -64,6 +64,11 @@ fn done_by<'a, S: Store, W: World>(
         → W.replies world.new ≡ W.replies world.old }
 {
     match order {
+        Order::Trace {
+            recording,
+            script,
+            options,
+        } if is_plain_trace(options) => trace_by(alloc, recording, script, options.epochs, store),
         Order::TraceAt {
             recording,
             address,
@@ -183,7 +188,8 @@ pub fn sledge<R: Threads + Sync, S: Store, W: World, O: Sink, E: Sink, G: Gate>(
 
 /// Words that differ in `--epochs` alone have one answer, whatever the files are.
 pub fn same_answer()
-    ensures { (first second : List (List ℕ)) → SameAnswer first second }
+    ensures at { (first second : List (List ℕ)) → SameAnswer first second }
+    ensures script { (first second : List (List ℕ)) → SameScriptAnswer first second }
 {}
 
 /// A command that does not ask the world ends as its words and the files come to, says it, and leaves

@@ -15,7 +15,7 @@ ghost use Rattle.sledge_top.specs.Views.{done_view, Comes, IsLaterFailure};
 use crate::done::Done;
 use crate::failure::Failure;
 use crate::recording::put_recording;
-use crate::trace::{plan_of, recorded_in, replay_plan};
+use crate::trace::{no_tracers, plan_of, recorded_in, replay_plan};
 use call_recorder::recut as recut_run;
 use elf_image::Image;
 use epoch_run::Plan;
@@ -36,7 +36,7 @@ fn unbroken(
         (unless_broken (rec, image) (first_break rec (opening image rec.args))) }
     ensures later { IfErr result IsLaterFault }
 {
-    let plan = plan_of(alloc, rec, image, 0, None)?;
+    let plan = plan_of(alloc, rec, image, no_tracers(alloc), None)?;
     let _ = replay_plan(alloc, &plan)?;
     let Plan {
         image,

@@ -5,5 +5,6 @@ mod recorded;
 mod recordings;
 mod refusals;
 mod running;
+mod scripts;
 mod shows;
 mod traces;

@@ -5,9 +5,10 @@ ghost use Rattle.sl_base.specs.Faults.{Rose};
 ghost use Rattle.sl_base.specs.Refusals.{Gives};
 ghost use Rattle.elf_image.specs.Loadable.{IsLoadable};
 ghost use Rattle.rec_format.specs.Rules.{IsRecordingValue};
+ghost use Rattle.tracer_lang.specs.Script.{tree_of};
 ghost use Rattle.replay.specs.Opening.{opening};
 ghost use Rattle.checkpoints.specs.RecordedRun.{opened_of};
-ghost use Rattle.sledge_top.specs.Answer.{recording_of, image_in, image_of, recorded, recorded_in, refused_by, broken_by, traced, replayed_alone, trace_at, replay, check};
+ghost use Rattle.sledge_top.specs.Answer.{recording_of, image_in, image_of, recorded, recorded_in, refused_by, broken_by, traced, replayed_alone, script_of, script_in, trace_by, trace_at, replay, check};
 ghost use Rattle.sledge_top.specs.Runs.{run_in};
 ghost use Rattle.sledge_top.specs.Endings.{IsLater, IsLaterFault};
 ghost use Rattle.sledge_top.specs.Views.{done_view, Comes, IsLaterFailure};
@@ -20,17 +21,22 @@ use call_log::{Break, BreakKind};
 use checkpoints::Checkpoints;
 use elf_image::{Image, ImageFault, flat_image, read_image};
 use epoch_cut::cut;
-use epoch_run::{Plan, runs_end_as_recorded};
+use epoch_run::{Plan, at_script, runs_end_as_recorded};
 use rec_format::{Recording, read_recording};
 use replay::load;
 use report::{Refusal, checked_text, recorded_end, report_text};
 use sl_base::{Brand, Memory, Refused, Seq, Store};
 use std::alloc::Global;
 use std::sync::ledger::Blank;
-use tracer_lang::Record;
+use tracepoints::Points;
+use tracer_lang::{Record, Script};
+use tracer_read::read_script;
 
 /// The most bytes of a recording.
 const RECORDING_LIMIT: u64 = 268_435_456;
+
+/// The most bytes of a script.
+const SCRIPT_LIMIT: u64 = 65_536;
 
 /// The recording that the bytes spell.
 fn recording_of(alloc: Global, bytes: &[u8]) -> Result<Recording, Refused<Refusal>>
@@ -100,10 +106,10 @@ pub fn replay_plan(alloc: Global, plan: &Plan) -> Result<Seq<Record>, Refused<Re
     }
 }
 
-/// The report of a plan, with register a0 recorded wherever pc is at its address.
+/// The report of a plan, with what its tracers leave.
 fn traced(alloc: Global, plan: &Plan) -> Result<Vec<u8>, Refused<Refusal>>
-    ensures text { Gives (λ text. text.items) result
-        (traced plan.now.checkpoints.rec plan.now.address (opened_of plan.now.checkpoints)) }
+    ensures text { Gives (λ text. text.items) result (traced plan.now.checkpoints.rec
+        (tree_of plan.now.script) (opened_of plan.now.checkpoints)) }
     ensures later { IfErr result IsLaterFault }
 {
     runs_end_as_recorded();
@@ -136,13 +142,13 @@ fn checkpoints_of(alloc: Global, rec: Recording, image: &Image) -> Result<Checkp
     Checkpoints::new(alloc, rec, machine, frames)
 }
 
-/// A recording and its image, cut into at most so many epochs, or into one for each interval
-/// between checkpoints.
+/// A recording and its image with a script, cut into at most so many epochs, or into one for each
+/// interval between checkpoints.
 pub fn plan_of(
     alloc: Global,
     rec: Recording,
     image: Image,
-    address: u32,
+    script: Script,
     epochs: Option<u32>,
 ) -> Result<Plan, Memory>
     requires rules { IsRecordingValue rec }
@@ -151,40 +157,50 @@ pub fn plan_of(
     ensures recording { IfOk result (λ plan. plan.checkpoints.rec ≡ rec) }
     ensures opened { IfOk result (λ plan. opened_of plan.checkpoints ≡ opening image rec.args) }
     ensures image { IfOk result (λ plan. plan.image ≡ image) }
-    ensures address { IfOk result (λ plan. plan.address ≡ address) }
+    ensures script { IfOk result (λ plan. tree_of plan.script ≡ tree_of script) }
 {
     let checkpoints = checkpoints_of(alloc, rec, &image)?;
     let segments = checkpoints.segments();
     let cutting = cut(alloc, segments, epochs.unwrap_or(segments))?;
+    let points = Points::new(alloc, &script)?;
     Ok(Plan {
         image,
         checkpoints,
         cutting,
-        address,
+        script,
+        points,
     })
 }
 
-/// The report of a recording and its image, with register a0 recorded wherever pc is at the
-/// address.
+/// The report of a recording and its image, with what the tracers of a script leave.
 fn traced_from(
     alloc: Global,
     rec: Recording,
     image: Image,
-    address: u32,
+    script: Script,
     epochs: Option<u32>,
 ) -> Result<Vec<u8>, Refused<Refusal>>
     requires rules { IsRecordingValue rec }
     requires image { IsLoadable image }
     requires epochs { IfSome epochs (λ n. (1 ≤ n) × (n ≤ 4096)) }
     ensures text { Gives (λ text. text.items) result
-        (traced rec address (opening image rec.args)) }
+        (traced rec (tree_of script) (opening image rec.args)) }
     ensures later { IfErr result IsLaterFault }
 {
-    let plan = plan_of(alloc, rec, image, address, epochs)?;
+    let plan = plan_of(alloc, rec, image, script, epochs)?;
     traced(alloc, &plan)
 }
 
-/// The same without tracers.
+/// A script without tracers.
+pub fn no_tracers(alloc: Global) -> Script {
+    Script {
+        budget: 1,
+        functions: Seq::new(alloc),
+        tracepoints: Seq::new(alloc),
+    }
+}
+
+/// The report of a recording and its image, without tracers.
 fn replayed_from(alloc: Global, rec: Recording, image: Image) -> Result<Vec<u8>, Refused<Refusal>>
     requires rules { IsRecordingValue rec }
     requires image { IsLoadable image }
@@ -192,7 +208,7 @@ fn replayed_from(alloc: Global, rec: Recording, image: Image) -> Result<Vec<u8>,
         (replayed_alone rec (opening image rec.args)) }
     ensures later { IfErr result IsLaterFault }
 {
-    let plan = plan_of(alloc, rec, image, 0, None)?;
+    let plan = plan_of(alloc, rec, image, no_tracers(alloc), None)?;
     replayed_alone(alloc, &plan)
 }
 
@@ -228,6 +244,60 @@ pub fn recorded_in<S: Store>(
     Ok(recorded(alloc, &bytes)?)
 }
 
+/// The script that a text is, with the symbols of an image.
+fn script_of(alloc: Global, image: &Image, text: &[u8]) -> Result<Script, Refused<Refusal>>
+    ensures value { Gives tree_of result (script_of image.now text.now) }
+    ensures later { IfErr result IsLaterFault }
+{
+    match read_script(alloc, text, image.symbols.as_slice()) {
+        Ok(script) => Ok(script),
+        Err(Refused::Fault(fault)) => Err(Refused::Fault(Refusal::ScriptRefused(fault))),
+        Err(Refused::Memory) => Err(Refused::Memory),
+    }
+}
+
+/// The script of a file, with the symbols of an image.
+fn script_in<S: Store>(
+    alloc: Global,
+    image: &Image,
+    name: &str,
+    store: &mut S,
+) -> Result<Script, Failure>
+    ensures value { IfSome (S.told store.old) (λ files.
+        Comes tree_of result (script_in files image.now name.now)) }
+    ensures failed { IsErrOf result Failure.StoreFault
+        → Rose (S.faults store.old) (S.faults store.new) }
+    ensures later { IfErr result IsLaterFailure }
+    ensures faults { S.faults store.old ≤ S.faults store.new }
+    ensures same { S.told store.new ≡ S.told store.old }
+{
+    let text = file_of(alloc, store, name, SCRIPT_LIMIT)?;
+    Ok(script_of(alloc, image, &text)?)
+}
+
+/// `trace RECORDING SCRIPT`: the report of a recording, with what the tracers of a script leave.
+pub fn trace_by<'a, S: Store>(
+    alloc: Global,
+    name: &str,
+    script: &str,
+    epochs: Option<u32>,
+    store: &mut S,
+) -> Result<Done<'a>, Failure>
+    requires epochs { IfSome epochs (λ n. (1 ≤ n) × (n ≤ 4096)) }
+    ensures answer { IfSome (S.told store.old) (λ files.
+        Comes done_view result (trace_by files name.now script.now)) }
+    ensures failed { IsErrOf result Failure.StoreFault
+        → Rose (S.faults store.old) (S.faults store.new) }
+    ensures later { IfErr result IsLaterFailure }
+    ensures faults { S.faults store.old ≤ S.faults store.new }
+    ensures same { S.told store.new ≡ S.told store.old }
+{
+    let (rec, image) = recorded_in(alloc, name, store)?;
+    let script = script_in(alloc, &image, script, store)?;
+    let text = traced_from(alloc, rec, image, script, epochs)?;
+    Ok(Done { text, put: None })
+}
+
 /// `trace RECORDING at HEX`: the report of a recording, with register a0 recorded wherever pc is at
 /// the address.
 pub fn trace_at<'a, S: Store>(
@@ -247,7 +317,8 @@ pub fn trace_at<'a, S: Store>(
     ensures same { S.told store.new ≡ S.told store.old }
 {
     let (rec, image) = recorded_in(alloc, name, store)?;
-    let text = traced_from(alloc, rec, image, address, epochs)?;
+    let script = at_script(alloc, address)?;
+    let text = traced_from(alloc, rec, image, script, epochs)?;
     Ok(Done { text, put: None })
 }
 

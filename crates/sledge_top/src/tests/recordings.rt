@@ -55,9 +55,19 @@ fn push_page(out: &mut Vec<u8>, number: &str, offset: &str, bytes: &str) -> Resu
     )
 }
 
+/// What stands among registers for the index of the next call.
+const CALL_INDEX: u32 = 32;
+
+/// What stands among registers for the break.
+const BREAK: u32 = 33;
+
 /// The value of register `number` among registers as `a=5`, or that of the opening state.
 fn register(number: u32, registers: &str) -> u32 {
-    let mut value = if number == 2 { 0x7fff_ffe0 } else { 0 };
+    let mut value = match number {
+        2 => 0x7fff_ffe0,
+        BREAK => 0x11000,
+        _ => 0,
+    };
     for register in registers.split_whitespace() {
         if let Some((name, given)) = register.split_once('=') {
             if number_of(name) == number {
@@ -67,9 +77,6 @@ fn register(number: u32, registers: &str) -> u32 {
     }
     value
 }
-
-/// What stands among registers for the index of the next call.
-const CALL_INDEX: u32 = 32;
 
 /// Adds a checkpoint by its count, its program counter, the number of its pages and its registers.
 fn push_checkpoint(
@@ -85,7 +92,8 @@ fn push_checkpoint(
     for number in 1..32 {
         push_word(out, register(number, registers))?;
     }
-    push_words(out, "11000 11000")?;
+    push_word(out, register(BREAK, registers))?;
+    push_word(out, register(BREAK, registers))?;
     push_word(out, register(CALL_INDEX, registers))?;
     push_words(out, pages)
 }
@@ -113,7 +121,8 @@ fn push_line(out: &mut Vec<u8>, line: &str) -> Result<(), Fail> {
 ///
 /// `words W ..` adds numbers of four bytes and `bytes B ..` bytes, `page NUMBER OFFSET B ..` a page
 /// that is zeros but for these bytes, and `at COUNT PC PAGES R=VALUE ..` a checkpoint whose other
-/// registers are those of the opening state. There `20=1` is the index of the next call.
+/// registers are those of the opening state. There `20=1` is the index of the next call, and
+/// `21=12000` the break, which is 0x11000 where it is left out.
 pub fn recording(alloc: Global, recipe: &str) -> Result<Vec<u8>, Fail> {
     let mut bytes = b"SLDGREC1".to_vec(alloc)?;
     for line in recipe.lines() {

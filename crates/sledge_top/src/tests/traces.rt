@@ -326,7 +326,7 @@ fn each_register(rt: HostRuntime) -> Result<(), Fail> {
 }
 
 /// A text with a value in the place of each such character.
-fn filled(alloc: Global, text: &str, hole: char, value: &str) -> Result<String, Fail> {
+pub fn filled(alloc: Global, text: &str, hole: char, value: &str) -> Result<String, Fail> {
     let mut whole = String::new(alloc);
     for c in text.chars() {
         if c == hole {

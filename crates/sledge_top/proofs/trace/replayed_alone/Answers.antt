@@ -2,12 +2,11 @@ use Rattle.std.proofs.Common.{◌≡◌, ℕ, List, [], Ok, ap, sym, subst, ◌�
 use Rattle.std.proofs.lemmas.Result.{err_from_is_err_and}
 use Rattle.tracer_lang.specs.declared.record.Record.{Record}
 use Rattle.checkpoints.specs.RecordedRun.{opened_of}
-use Rattle.epoch_run.specs.Records.{emit_at}
 use Rattle.sl_base.specs.Refusals.{Fails}
 use Rattle.report.specs.declared.run_end.RunEnd.{RunEnd}
 use Rattle.report.specs.RunEnd.{recorded_end}
 use Rattle.report.specs.Report.{all_lines, report}
-use Rattle.sledge_top.specs.Answer.{◌>>=◌, A0}
+use Rattle.sledge_top.specs.Answer.{◌>>=◌}
 use Rattle.epoch_run.specs.Plans.{tracers_of}
 use Rattle.sledge_top.proofs.Reports.{records_or_refusal, replayed_alone_is, fails_on}
 use Rattle.sledge_top.proofs.trace.replayed_alone.Goals as goal
