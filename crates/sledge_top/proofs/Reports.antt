@@ -17,7 +17,7 @@ use Rattle.report.specs.declared.status.Refusal.{Refusal}
 use Rattle.report.specs.RunEnd.{recorded_end}
 use Rattle.report.specs.Report.{all_lines, report}
 use Rattle.sledge_top.specs.Runs.{run_value, run_of}
-use Rattle.sledge_top.specs.Answer.{◌>>=◌, refused_by, replayed, traced, replayed_alone, last_state, run_end, broken_by}
+use Rattle.sledge_top.specs.Answer.{◌>>=◌, refused_by, replayed, traced, replayed_alone, last_state, run_end, broken_by, unless_broken}
 
 -- the records of a run, or how the command is refused
 abbrev pub records_or_refusal : Recording → Tracers → State → Result (List Record) Refusal
@@ -56,3 +56,11 @@ replayed_alone_is rec tracers opened comes =
 pub fails_on : {A B : Type 0} (why : Refused Refusal) (part : Result A Refusal) (f : A → Result B Refusal) → Fails why part → Fails why (part >>= f)
 fails_on refused.Memory part f fails = tt
 fails_on (refused.Fault why) part f fails = ap (λ p. p >>= f) fails
+
+-- what refuses a replay refuses what a recording is used for
+pub refuses_too : {A : Type 0} (x : A) (first : Option Break) (left : List Record) (why : Refused Refusal)
+    → Fails why (refused_by (λ first. broken_by first first.kind) (run_value first left)) → Fails why (unless_broken x first)
+refuses_too x None left refused.Memory fails = tt
+refuses_too x None left (refused.Fault why) fails = absurd (let h : Ok left ≡ Err why = fails in cc)
+refuses_too x (Some first) left refused.Memory fails = tt
+refuses_too x (Some first) left (refused.Fault why) fails = let h : Err (broken_by first first.kind) ≡ Err why = fails in cc
