@@ -200,6 +200,20 @@ or_true : (a b : Bool) → a ≡ true → (a || b) ≡ true
 or_true true b is = refl
 or_true false b is = absurd (let h : false ≡ true = is in cc)
 
+-- its file has at most 64 MiB
+pub made_small : (table : Table) (text bytes : List ℕ) → Made table text bytes → length (written (image_from table text bytes)) ≤ 2 ^ 26
+made_small table text [] made =
+    let few = made.text_few in
+    let labels = made.few in
+    let len = written_len (image_from table text []) in
+    omega (arith, len, length-append text [], symbols_len table.data_start table.labels, names_len table.data_start table.labels)
+made_small table text (b ∷ bs) made =
+    let few = made.text_few in
+    let data_few = made.data_few in
+    let labels = made.few in
+    let len = written_len (image_from table text (b ∷ bs)) in
+    omega (arith, len, length-append text ((b ∷ bs) ++ []), length-append (b ∷ bs) [], symbols_len table.data_start table.labels, names_len table.data_start table.labels)
+
 pub made_writable : (table : Table) (text bytes : List ℕ) → Made table text bytes → IsWritable (image_from table text bytes)
 made_writable table text [] made =
     let some = made.some in
@@ -221,9 +235,8 @@ made_writable table text [] made =
       names = spelled table.data_start table.labels made.proper;
       number = omega arith;
       size =
-          let len = written_len (image_from table text []) in
-          let labels = made.few in
-          omega (arith, len, length-append text [], symbols_len table.data_start table.labels, names_len table.data_start table.labels);
+          let small = made_small table text [] made in
+          omega arith;
     }
 made_writable table text (b ∷ bs) made =
     let some = made.some in
@@ -253,9 +266,8 @@ made_writable table text (b ∷ bs) made =
       names = spelled table.data_start table.labels made.proper;
       number = omega arith;
       size =
-          let len = written_len (image_from table text (b ∷ bs)) in
-          let labels = made.few in
-          omega (arith, len, length-append text ((b ∷ bs) ++ []), length-append (b ∷ bs) [], symbols_len table.data_start table.labels, names_len table.data_start table.labels);
+          let small = made_small table text (b ∷ bs) made in
+          omega arith;
     }
 
 pub made : (source : List ℕ) (table : Table) (text bytes : List ℕ) → length source ≤ most_source → table ≡ table_of (lines source)

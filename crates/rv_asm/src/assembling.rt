@@ -3,7 +3,7 @@
 ghost use Rattle.std.specs.Prelude.{◌≡◌, ◌<◌, ◌≤◌, ◌^◌, ◌++◌, length, IfOk, OnOk, None};
 ghost use Rattle.std.specs.Str.Lines.{lines};
 ghost use Rattle.sl_base.specs.Refusals.{Tells};
-ghost use Rattle.elf_image.specs.Written.{IsWritable};
+ghost use Rattle.elf_image.specs.Written.{IsWritable, written};
 ghost use Rattle.asm_text.specs.declared.mnemonic.Section.TheVariants.{Text, Data};
 ghost use Rattle.rv_asm.specs.Places.{start, place_after};
 ghost use Rattle.rv_asm.specs.Lines.{line_cause, first_fault};
@@ -126,7 +126,8 @@ fn assemble_lines(
     Ok(program)
 }
 
-/// The image of a source: RV32IM instructions, short forms and directives, one a line.
+/// The image of a source: RV32IM instructions, short forms and directives, one a line. Its file has
+/// at most 64 MiB.
 ///
 /// # Errors
 ///
@@ -135,6 +136,7 @@ fn assemble_lines(
 pub fn assemble(alloc: Global, source: &[u8]) -> Result<Image, Refused<AsmFault>>
     ensures image { Tells result (assembly source.now) }
     ensures writable { IfOk result IsWritable }
+    ensures small { IfOk result (λ image. length (written image) ≤ 2 ^ 26) }
 {
     if source.len() > MOST_SOURCE {
         return Err(refusal(0, AsmCause::TooLarge));
