@@ -1,0 +1,2 @@
+mod Trays
+mod Whole
