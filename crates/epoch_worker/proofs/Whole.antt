@@ -11,7 +11,7 @@ use Rattle.epoch_board.specs.Rule.{times}
 use Rattle.epoch_board.specs.Seats.{BoardId, SeatState}
 use Rattle.epoch_core.specs.declared.post.Post.{Post}
 use Rattle.epoch_core.specs.declared.post.PostValue.{PostValue}
-use Rattle.epoch_core.specs.declared.post.PostValue.TheVariants.{Ran, Broke, Skipped}
+use Rattle.epoch_core.specs.declared.post.PostValue.TheVariants.{Broke, Skipped}
 use Rattle.epoch_core.specs.Posts.{post_of, posts_for, BrokeAt, IsRight, Posted}
 use Rattle.epoch_worker.specs.Work.{IsDueBelow, IsDue, if_broke, broken_of, HasWorked}
 
@@ -41,9 +41,8 @@ only e k zero lt is = is
 only e k (suc i) lt is = absurd (omega arith)
 
 broke : (k e : ℕ) (value : PostValue) → Contains (if_broke e value) k → (first : Break) × (value ≡ Broke first) × (e ≡ k)
-broke k e (Ran records) there = absurd (omega (arith, there.1))
 broke k e (Broke first) there = (first, refl, only e k there.0 there.1 there.2)
-broke k e (Skipped below) there = absurd (omega (arith, there.1))
+broke k e other there = absurd (omega (arith, there.1))
 
 broke_in : (k : ℕ) (tray : List Post) → Contains (flat_map broken_of tray) k → BrokeAt tray k
 broke_in k [] there = absurd (omega (arith, there.1))

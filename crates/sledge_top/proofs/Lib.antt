@@ -1,5 +1,4 @@
 mod WholeRun
-mod Turns
 mod Reports
 mod Arguments
 mod Recuts

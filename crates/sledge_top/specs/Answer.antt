@@ -310,7 +310,7 @@ is_all (word ∷ []) = bytes_eq word (codes "all")
 is_all words = false
 
 abbrev pub is_plain_trace : TraceOptions → Bool
-is_plain_trace options = options.workers == 1 && is_all options.analyses
+is_plain_trace options = is_all options.analyses
 
 -- the rows that are built so far; words of the others name no command
 abbrev pub is_built : Order → Bool

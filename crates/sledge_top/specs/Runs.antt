@@ -1,13 +1,11 @@
--- The replay of a recording in epochs, all by one worker.
-use Rattle.std.specs.Prelude.{ℕ, zero, suc, List, [], ◌∷◌, ◌++◌, Option, Some, None, Result, Ok, Err}
+-- What the replay of a plan comes to.
+use Rattle.std.specs.Prelude.{List, Option, Some, None, Result, Ok, Err}
 use Rattle.sl_model.specs.State.{State}
 use Rattle.call_log.specs.declared.breaks.Break.{Break}
 use Rattle.rec_format.specs.declared.recording.Recording.{Recording}
 use Rattle.tracer_lang.specs.declared.record.Record.{Record}
 use Rattle.replay.specs.Breaks.{first_break}
 use Rattle.checkpoints.specs.RecordedRun.{opened_of}
-use Rattle.epoch_core.specs.declared.event.CoreEvent.{CoreEvent}
-use Rattle.epoch_core.specs.declared.event.CoreEvent.TheVariants.{Claim, Finish, Leave}
 use Rattle.epoch_run.specs.declared.plan.Plan.{Plan}
 use Rattle.epoch_run.specs.Records.{Tracers, records}
 use Rattle.epoch_run.specs.Plans.{tracers_of}
@@ -22,12 +20,3 @@ run_of rec tracers opened = run_value (first_break rec opened) (records rec trac
 
 abbrev pub run_in : Plan → Result (List Record) Break
 run_in plan = run_of plan.checkpoints.rec (tracers_of plan) (opened_of plan.checkpoints)
-
--- worker 0 claims and runs so many epochs, one after the other
-abbrev pub turns : ℕ → List CoreEvent
-turns zero = []
-turns (suc n) = Claim 0 ∷ Finish 0 ∷ turns n
-
--- and then leaves
-abbrev pub one_after_the_other : ℕ → List CoreEvent
-one_after_the_other epochs = turns epochs ++ Leave 0 ∷ []

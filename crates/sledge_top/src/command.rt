@@ -33,20 +33,22 @@ fn is_all(kinds: &[&str]) -> bool
     }
 }
 
-/// Whether a trace has one worker and the analysis `all` alone.
+/// Whether a trace has the analysis `all` alone.
 fn is_plain_trace(options: &TraceOptions<'_>) -> bool
     ensures { result ≡ is_plain_trace (trace_view options.now) }
 {
-    options.workers == 1 && is_all(&options.analyses)
+    is_all(&options.analyses)
 }
 
 /// Does a command but for its file and its text. Words of commands that are not built yet name
 /// none.
-fn done_by<'a, S: Store, W: World>(
+fn done_by<'a, R: Threads + Sync, S: Store, W: World, G: Gate>(
+    rt: &R,
     alloc: Global,
     order: &Order<'a>,
     store: &mut S,
     world: &mut W,
+    gate: &G,
 ) -> Result<Done<'a>, Failure>
     requires { Fits (order_view order.now) }
     ensures answer { IfSome (S.told store.old) (λ files.
@@ -68,13 +70,31 @@ fn done_by<'a, S: Store, W: World>(
             recording,
             script,
             options,
-        } if is_plain_trace(options) => trace_by(alloc, recording, script, options.epochs, store),
+        } if is_plain_trace(options) => trace_by(
+            rt,
+            alloc,
+            recording,
+            script,
+            options.epochs,
+            options.workers,
+            store,
+            gate,
+        ),
         Order::TraceAt {
             recording,
             address,
             options,
-        } if is_plain_trace(options) => trace_at(alloc, recording, *address, options.epochs, store),
-        Order::Replay { recording } => replay(alloc, recording, store),
+        } if is_plain_trace(options) => trace_at(
+            rt,
+            alloc,
+            recording,
+            *address,
+            options.epochs,
+            options.workers,
+            store,
+            gate,
+        ),
+        Order::Replay { recording } => replay(rt, alloc, recording, store, gate),
         Order::Check { recording } => check(alloc, recording, store),
         Order::Record {
             image,
@@ -85,7 +105,7 @@ fn done_by<'a, S: Store, W: World>(
             recording,
             output,
             every,
-        } => recut(alloc, recording, output, *every, store),
+        } => recut(rt, alloc, recording, output, *every, store, gate),
         Order::Show {
             image,
             address,
@@ -98,12 +118,14 @@ fn done_by<'a, S: Store, W: World>(
 }
 
 /// Does a command but for the line of the second output.
-fn run<S: Store, W: World, O: Sink>(
+fn run<R: Threads + Sync, S: Store, W: World, O: Sink, G: Gate>(
+    rt: &R,
     alloc: Global,
     words: &[String],
     store: &mut S,
     world: &mut W,
     out: &mut O,
+    gate: &G,
 ) -> Status
     ensures usage { result ≡ Status.Refused Refusal.Usage → named_by (texts words.now) ≡ None }
     ensures usage_always { named_by (texts words.now) ≡ None
@@ -124,7 +146,7 @@ fn run<S: Store, W: World, O: Sink>(
         Err(Refused::Fault(_)) => return Status::Refused(Refusal::Usage),
         Err(Refused::Memory) => return Status::Memory,
     };
-    match done_by(alloc, &order, store, world) {
+    match done_by(rt, alloc, &order, store, world, gate) {
         Ok(done) => finish(alloc, &done, store, out),
         Err(Failure::Refused(why)) => Status::Refused(why),
         Err(Failure::StoreFault) => Status::StoreFault,
@@ -137,14 +159,14 @@ fn run<S: Store, W: World, O: Sink>(
 /// The text of a command goes to `out`, and its line of refusal to `err`. `world` is asked by the
 /// command that records, and `gate` is told of each claim of an epoch.
 pub fn sledge<R: Threads + Sync, S: Store, W: World, O: Sink, E: Sink, G: Gate>(
-    _rt: &R,
+    rt: &R,
     alloc: Global,
     words: &[String],
     store: &mut S,
     world: &mut W,
     out: &mut O,
     err: &mut E,
-    _gate: &G,
+    gate: &G,
 ) -> Status
     // A refusal for the words comes exactly where they name no command, but for want of memory.
     ensures usage { result ≡ Status.Refused Refusal.Usage → named_by (texts words.now) ≡ None }
@@ -181,12 +203,12 @@ pub fn sledge<R: Threads + Sync, S: Store, W: World, O: Sink, E: Sink, G: Gate>(
     ensures world { asks_world (named_by (texts words.now)) ≡ false
         → W.replies world.new ≡ W.replies world.old }
 {
-    let status = run(alloc, words, store, world, out);
+    let status = run(rt, alloc, words, store, world, out, gate);
     let _ = write_fault(err, &status);
     status
 }
 
-/// Words that differ in `--epochs` alone have one answer, whatever the files are.
+/// Words that differ in `--workers` and `--epochs` alone have one answer, whatever the files are.
 pub fn same_answer()
     ensures at { (first second : List (List ℕ)) → SameAnswer first second }
     ensures script { (first second : List (List ℕ)) → SameScriptAnswer first second }

@@ -21,14 +21,17 @@ use elf_image::Image;
 use epoch_run::Plan;
 use rec_format::Recording;
 use report::Refusal;
-use sl_base::{Refused, Store};
+use sl_base::{Gate, Refused, Store};
 use std::alloc::Global;
+use std::thread::Threads;
 
 /// A recording and its image, where it replays without a break.
-fn unbroken(
+fn unbroken<R: Threads + Sync, G: Gate>(
+    rt: &R,
     alloc: Global,
     rec: Recording,
     image: Image,
+    gate: &G,
 ) -> Result<(Recording, Image), Refused<Refusal>>
     requires rules { IsRecordingValue rec }
     requires image { IsLoadable image }
@@ -37,7 +40,7 @@ fn unbroken(
     ensures later { IfErr result IsLaterFault }
 {
     let plan = plan_of(alloc, rec, image, no_tracers(alloc), None)?;
-    let _ = replay_plan(alloc, &plan)?;
+    let _ = replay_plan(rt, alloc, &plan, 1, gate)?;
     let Plan {
         image,
         checkpoints,
@@ -47,11 +50,13 @@ fn unbroken(
 }
 
 /// The same run with checkpoints at another distance, or how the command is refused.
-fn recut_by(
+fn recut_by<R: Threads + Sync, G: Gate>(
+    rt: &R,
     alloc: Global,
     rec: Recording,
     image: Image,
     every: u64,
+    gate: &G,
 ) -> Result<Recording, Refused<Refusal>>
     requires rules { IsRecordingValue rec }
     requires image { IsLoadable image }
@@ -60,17 +65,19 @@ fn recut_by(
     ensures rules { IfOk result IsRecordingValue }
     ensures later { IfErr result IsLaterFault }
 {
-    let (rec, image) = unbroken(alloc, rec, image)?;
+    let (rec, image) = unbroken(rt, alloc, rec, image, gate)?;
     Ok(recut_run(alloc, rec, &image, every)?)
 }
 
 /// The file of the same run with checkpoints at another distance, under a name.
-fn recut_from<'a>(
+fn recut_from<'a, R: Threads + Sync, G: Gate>(
+    rt: &R,
     alloc: Global,
     rec: Recording,
     image: Image,
     every: u64,
     output: &'a str,
+    gate: &G,
 ) -> Result<Done<'a>, Refused<Refusal>>
     requires rules { IsRecordingValue rec }
     requires image { IsLoadable image }
@@ -79,18 +86,20 @@ fn recut_from<'a>(
         (recut_from output.now every rec (opening image rec.args)) }
     ensures later { IfErr result IsLaterFault }
 {
-    let new = recut_by(alloc, rec, image, every)?;
+    let new = recut_by(rt, alloc, rec, image, every, gate)?;
     put_recording(alloc, &new, output)
 }
 
 /// `recut RECORDING OUTPUT`: replays a recording, and puts the same run with checkpoints at another
 /// distance.
-pub fn recut<'a, S: Store>(
+pub fn recut<'a, R: Threads + Sync, S: Store, G: Gate>(
+    rt: &R,
     alloc: Global,
     name: &str,
     output: &'a str,
     every: u64,
     store: &mut S,
+    gate: &G,
 ) -> Result<Done<'a>, Failure>
     requires { IsDistance every }
     ensures answer { IfSome (S.told store.old) (λ files.
@@ -102,5 +111,5 @@ pub fn recut<'a, S: Store>(
     ensures same { S.told store.new ≡ S.told store.old }
 {
     let (rec, image) = recorded_in(alloc, name, store)?;
-    Ok(recut_from(alloc, rec, image, every, output)?)
+    Ok(recut_from(rt, alloc, rec, image, every, output, gate)?)
 }

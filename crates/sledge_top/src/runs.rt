@@ -1,67 +1,92 @@
 //! The replay of a recording, cut into epochs.
 
-ghost use Rattle.std.specs.Prelude.{◌≡◌, ◌<◌, IfOk};
-ghost use Rattle.std.specs.List.{flat_map};
+ghost use Rattle.std.specs.Prelude.{◌≡◌, ◌<◌, Some, length, slice_get, IfOk};
 ghost use Rattle.sl_base.specs.Refusals.{Tells};
-ghost use Rattle.sledge_top.specs.Runs.{one_after_the_other, run_in};
+ghost use Rattle.epoch_run.specs.Plans.{values_of};
+ghost use Rattle.sledge_top.specs.Runs.{run_in};
 
 use call_log::Break;
-use epoch_core::{CoreEvent, Post, run_schedule};
+use epoch_core::{Post, Runs};
 use epoch_run::{Plan, PlanRuns, Worker, values_are_the_run};
+use epoch_worker::{Epochs, run_all};
 use ordered_merge::{merge, merged_means};
-use sl_base::{Refused, Seq, Steps};
-use std::alloc::{AllocError, Global};
+use sl_base::{Brand, Gate, Memory, Refused, Seq, Steps};
+use std::alloc::Global;
 use std::sync::ledger::{Blank, Ledger};
+use std::thread::Threads;
 use tracer_lang::Record;
 
-/// One worker claims and runs all epochs, one after the other, and leaves.
-fn one_after_the_other(alloc: Global, epochs: u32) -> Result<Vec<CoreEvent>, AllocError>
-    ensures { IfOk result (λ events. events.items ≡ one_after_the_other epochs) }
-{
-    let mut events = Vec::new(alloc);
-    for _ in 0..epochs {
-        events.push(CoreEvent::Claim(0))?;
-        events.push(CoreEvent::Finish(0))?;
-    }
-    events.push(CoreEvent::Leave(0))?;
-    Ok(events)
+/// The epochs of a plan, which each worker runs with a machine and a memory of its own.
+#[derive(Drop)]
+struct PlanEpochs<'a> {
+    plan: &'a Plan,
 }
 
-/// The posts of all trays.
-fn all_posts(alloc: Global, trays: Vec<Seq<Post>>) -> Result<Vec<Post>, AllocError>
-    ensures { IfOk result (λ posts. posts.items ≡ flat_map (λ tray. tray) trays.items) }
-{
-    let mut posts = Vec::new(alloc);
-    for tray in trays {
-        posts.append(&mut tray.into_vec())?;
-    }
-    Ok(posts)
-}
-
-/// What tracers leave on the run of a plan's recording, or its first break. Each epoch is replayed
-/// by itself, and the posts are merged. Steps are counted on a ledger of their own.
-pub fn run_plan<L: Ledger>(
+/// Runs an epoch of a plan. Its steps are counted on a ledger of their own.
+fn run_counted<L: Ledger>(
     alloc: Global,
     plan: &Plan,
+    worker: &mut Worker,
+    epoch: u32,
     blank: Blank,
-) -> Result<Seq<Record>, Refused<Break>>
+) -> Result<Post, Memory>
+    requires within { epoch < length (values_of plan.now) }
     requires name { blank.name ≡ L.name }
     requires parts { blank.parts ≡ L.parts }
     requires some_parts { 0 < blank.parts }
+    ensures epoch { IfOk result (λ post. post.epoch ≡ epoch) }
+    ensures value { IfOk result
+        (λ post. slice_get (values_of plan.now) epoch ≡ Some post.value) }
+{
+    let mut steps = Steps::<L>::new(blank);
+    let mut runs = PlanRuns {
+        plan,
+        worker,
+        steps: &mut steps,
+    };
+    runs.run(alloc, epoch)
+}
+
+impl<'a> Epochs for PlanEpochs<'a> {
+    type Worker = Worker;
+
+    ghost use Rattle.epoch_run.specs.Plans.{values_of, values_are_own};
+
+    ghost values = { λ epochs. values_of epochs.plan.now };
+
+    ghost not_skipped = { λ epochs. values_are_own epochs.plan.now };
+
+    fn start(&self, alloc: Global) -> Result<Worker, Memory> {
+        Worker::new(alloc)
+    }
+
+    fn run(&self, alloc: Global, worker: &mut Worker, epoch: u32) -> Result<Post, Memory> {
+        run_counted::<Brand>(alloc, self.plan, worker, epoch, Blank::new(1))
+    }
+}
+
+/// How many epochs a plan has.
+fn count_of(plan: &Plan) -> u32
+    ensures { length (values_of plan.now) ≡ result }
+{
+    plan.epochs()
+}
+
+/// What tracers leave on the run of a plan's recording, or its first break. Each epoch is replayed
+/// by itself, by one of so many workers in threads of their own, and the posts are merged.
+pub fn run_plan<R: Threads + Sync, G: Gate>(
+    rt: &R,
+    alloc: Global,
+    plan: &Plan,
+    workers: u32,
+    gate: &G,
+) -> Result<Seq<Record>, Refused<Break>>
     ensures { Tells result (run_in plan.now) }
 {
     values_are_the_run();
     merged_means();
-    let epochs = plan.epochs();
-    let events = one_after_the_other(alloc, epochs)?;
-    let mut worker = Worker::new(alloc)?;
-    let mut steps = Steps::<L>::new(blank);
-    let mut runs = PlanRuns {
-        plan,
-        worker: &mut worker,
-        steps: &mut steps,
-    };
-    let trays = run_schedule(alloc, &mut runs, epochs, 1, &events)?;
-    let posts = all_posts(alloc, trays.into_vec())?;
-    merge(alloc, epochs, posts)
+    let count = count_of(plan);
+    let epochs = PlanEpochs { plan };
+    let posts = run_all(rt, alloc, &epochs, count, workers, gate)?;
+    merge(alloc, count, posts)
 }

@@ -8,3 +8,4 @@ mod running;
 mod scripts;
 mod shows;
 mod traces;
+mod workers;

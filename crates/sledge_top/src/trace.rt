@@ -25,9 +25,9 @@ use epoch_run::{Plan, at_script, runs_end_as_recorded};
 use rec_format::{Recording, read_recording};
 use replay::load;
 use report::{Refusal, checked_text, recorded_end, report_text};
-use sl_base::{Brand, Memory, Refused, Seq, Store};
+use sl_base::{Gate, Memory, Refused, Seq, Store};
 use std::alloc::Global;
-use std::sync::ledger::Blank;
+use std::thread::Threads;
 use tracepoints::Points;
 use tracer_lang::{Record, Script};
 use tracer_read::read_script;
@@ -94,12 +94,18 @@ fn broken_by(first: Break) -> Refusal
 }
 
 /// What tracers leave on the replay of a plan, or how the command is refused.
-pub fn replay_plan(alloc: Global, plan: &Plan) -> Result<Seq<Record>, Refused<Refusal>>
+pub fn replay_plan<R: Threads + Sync, G: Gate>(
+    rt: &R,
+    alloc: Global,
+    plan: &Plan,
+    workers: u32,
+    gate: &G,
+) -> Result<Seq<Record>, Refused<Refusal>>
     ensures records { Gives (λ records. records) result
         (refused_by (λ first. broken_by first first.kind) (run_in plan.now)) }
     ensures later { IfErr result IsLaterFault }
 {
-    match run_plan::<Brand>(alloc, plan, Blank::new(1)) {
+    match run_plan(rt, alloc, plan, workers, gate) {
         Ok(records) => Ok(records),
         Err(Refused::Fault(first)) => Err(Refused::Fault(broken_by(first))),
         Err(Refused::Memory) => Err(Refused::Memory),
@@ -107,25 +113,36 @@ pub fn replay_plan(alloc: Global, plan: &Plan) -> Result<Seq<Record>, Refused<Re
 }
 
 /// The report of a plan, with what its tracers leave.
-fn traced(alloc: Global, plan: &Plan) -> Result<Vec<u8>, Refused<Refusal>>
+fn traced<R: Threads + Sync, G: Gate>(
+    rt: &R,
+    alloc: Global,
+    plan: &Plan,
+    workers: u32,
+    gate: &G,
+) -> Result<Vec<u8>, Refused<Refusal>>
     ensures text { Gives (λ text. text.items) result (traced plan.now.checkpoints.rec
         (tree_of plan.now.script) (opened_of plan.now.checkpoints)) }
     ensures later { IfErr result IsLaterFault }
 {
     runs_end_as_recorded();
-    let records = replay_plan(alloc, plan)?;
+    let records = replay_plan(rt, alloc, plan, workers, gate)?;
     let last = recorded_end(&plan.checkpoints.rec);
     Ok(report_text(alloc, records.as_slice(), &last)?)
 }
 
 /// The report of a plan without its tracers.
-fn replayed_alone(alloc: Global, plan: &Plan) -> Result<Vec<u8>, Refused<Refusal>>
+fn replayed_alone<R: Threads + Sync, G: Gate>(
+    rt: &R,
+    alloc: Global,
+    plan: &Plan,
+    gate: &G,
+) -> Result<Vec<u8>, Refused<Refusal>>
     ensures text { Gives (λ text. text.items) result
         (replayed_alone plan.now.checkpoints.rec (opened_of plan.now.checkpoints)) }
     ensures later { IfErr result IsLaterFault }
 {
     runs_end_as_recorded();
-    let _ = replay_plan(alloc, plan)?;
+    let _ = replay_plan(rt, alloc, plan, 1, gate)?;
     let last = recorded_end(&plan.checkpoints.rec);
     Ok(report_text(alloc, &[], &last)?)
 }
@@ -173,12 +190,15 @@ pub fn plan_of(
 }
 
 /// The report of a recording and its image, with what the tracers of a script leave.
-fn traced_from(
+fn traced_from<R: Threads + Sync, G: Gate>(
+    rt: &R,
     alloc: Global,
     rec: Recording,
     image: Image,
     script: Script,
     epochs: Option<u32>,
+    workers: u32,
+    gate: &G,
 ) -> Result<Vec<u8>, Refused<Refusal>>
     requires rules { IsRecordingValue rec }
     requires image { IsLoadable image }
@@ -188,7 +208,7 @@ fn traced_from(
     ensures later { IfErr result IsLaterFault }
 {
     let plan = plan_of(alloc, rec, image, script, epochs)?;
-    traced(alloc, &plan)
+    traced(rt, alloc, &plan, workers, gate)
 }
 
 /// A script without tracers.
@@ -201,7 +221,13 @@ pub fn no_tracers(alloc: Global) -> Script {
 }
 
 /// The report of a recording and its image, without tracers.
-fn replayed_from(alloc: Global, rec: Recording, image: Image) -> Result<Vec<u8>, Refused<Refusal>>
+fn replayed_from<R: Threads + Sync, G: Gate>(
+    rt: &R,
+    alloc: Global,
+    rec: Recording,
+    image: Image,
+    gate: &G,
+) -> Result<Vec<u8>, Refused<Refusal>>
     requires rules { IsRecordingValue rec }
     requires image { IsLoadable image }
     ensures text { Gives (λ text. text.items) result
@@ -209,7 +235,7 @@ fn replayed_from(alloc: Global, rec: Recording, image: Image) -> Result<Vec<u8>,
     ensures later { IfErr result IsLaterFault }
 {
     let plan = plan_of(alloc, rec, image, no_tracers(alloc), None)?;
-    replayed_alone(alloc, &plan)
+    replayed_alone(rt, alloc, &plan, gate)
 }
 
 /// The recording and the image that the bytes of a file spell.
@@ -275,13 +301,17 @@ fn script_in<S: Store>(
     Ok(script_of(alloc, image, &text)?)
 }
 
-/// `trace RECORDING SCRIPT`: the report of a recording, with what the tracers of a script leave.
-pub fn trace_by<'a, S: Store>(
+/// `trace RECORDING SCRIPT`: the report of a recording, with what the tracers of a script leave. Its
+/// epochs are run by so many workers.
+pub fn trace_by<'a, R: Threads + Sync, S: Store, G: Gate>(
+    rt: &R,
     alloc: Global,
     name: &str,
     script: &str,
     epochs: Option<u32>,
+    workers: u32,
     store: &mut S,
+    gate: &G,
 ) -> Result<Done<'a>, Failure>
     requires epochs { IfSome epochs (λ n. (1 ≤ n) × (n ≤ 4096)) }
     ensures answer { IfSome (S.told store.old) (λ files.
@@ -294,18 +324,21 @@ pub fn trace_by<'a, S: Store>(
 {
     let (rec, image) = recorded_in(alloc, name, store)?;
     let script = script_in(alloc, &image, script, store)?;
-    let text = traced_from(alloc, rec, image, script, epochs)?;
+    let text = traced_from(rt, alloc, rec, image, script, epochs, workers, gate)?;
     Ok(Done { text, put: None })
 }
 
 /// `trace RECORDING at HEX`: the report of a recording, with register a0 recorded wherever pc is at
-/// the address.
-pub fn trace_at<'a, S: Store>(
+/// the address. Its epochs are run by so many workers.
+pub fn trace_at<'a, R: Threads + Sync, S: Store, G: Gate>(
+    rt: &R,
     alloc: Global,
     name: &str,
     address: u32,
     epochs: Option<u32>,
+    workers: u32,
     store: &mut S,
+    gate: &G,
 ) -> Result<Done<'a>, Failure>
     requires epochs { IfSome epochs (λ n. (1 ≤ n) × (n ≤ 4096)) }
     ensures answer { IfSome (S.told store.old) (λ files.
@@ -318,12 +351,18 @@ pub fn trace_at<'a, S: Store>(
 {
     let (rec, image) = recorded_in(alloc, name, store)?;
     let script = at_script(alloc, address)?;
-    let text = traced_from(alloc, rec, image, script, epochs)?;
+    let text = traced_from(rt, alloc, rec, image, script, epochs, workers, gate)?;
     Ok(Done { text, put: None })
 }
 
 /// `replay RECORDING`: the report of a recording, without an analysis.
-pub fn replay<'a, S: Store>(alloc: Global, name: &str, store: &mut S) -> Result<Done<'a>, Failure>
+pub fn replay<'a, R: Threads + Sync, S: Store, G: Gate>(
+    rt: &R,
+    alloc: Global,
+    name: &str,
+    store: &mut S,
+    gate: &G,
+) -> Result<Done<'a>, Failure>
     ensures answer { IfSome (S.told store.old) (λ files.
         Comes done_view result (replay files name.now)) }
     ensures failed { IsErrOf result Failure.StoreFault
@@ -333,7 +372,7 @@ pub fn replay<'a, S: Store>(alloc: Global, name: &str, store: &mut S) -> Result<
     ensures same { S.told store.new ≡ S.told store.old }
 {
     let (rec, image) = recorded_in(alloc, name, store)?;
-    let text = replayed_from(alloc, rec, image)?;
+    let text = replayed_from(rt, alloc, rec, image, gate)?;
     Ok(Done { text, put: None })
 }
 

@@ -112,6 +112,8 @@ fn push_line(out: &mut Vec<u8>, line: &str) -> Result<(), Fail> {
         push_page(out, number, offset, bytes)
     } else if what == "bytes" {
         push_bytes(out, rest)
+    } else if what == "zeros" {
+        push_zeros(out, number_of(rest) as usize)
     } else {
         push_words(out, rest)
     }
@@ -119,9 +121,10 @@ fn push_line(out: &mut Vec<u8>, line: &str) -> Result<(), Fail> {
 
 /// The bytes of a recipe, a line for each part of a recording. Numbers are hexadecimal.
 ///
-/// `words W ..` adds numbers of four bytes and `bytes B ..` bytes, `page NUMBER OFFSET B ..` a page
-/// that is zeros but for these bytes, and `at COUNT PC PAGES R=VALUE ..` a checkpoint whose other
-/// registers are those of the opening state. There `20=1` is the index of the next call, and
+/// `words W ..` adds numbers of four bytes, `bytes B ..` bytes and `zeros N` so many zeros,
+/// `page NUMBER OFFSET B ..` a page that is zeros but for these bytes, and
+/// `at COUNT PC PAGES R=VALUE ..` a checkpoint whose other registers are those of the opening
+/// state. There `20=1` is the index of the next call, and
 /// `21=12000` the break, which is 0x11000 where it is left out.
 pub fn recording(alloc: Global, recipe: &str) -> Result<Vec<u8>, Fail> {
     let mut bytes = b"SLDGREC1".to_vec(alloc)?;

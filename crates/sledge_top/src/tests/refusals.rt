@@ -42,7 +42,11 @@ trace --epochs 4096 none.rec at 0 => 2 sledge: absent: none.rec
 trace none.rec --epochs=0000000000001 at 0 => 2 sledge: absent: none.rec
 trace none.rec at --epochs 1 0 => 2 sledge: absent: none.rec
 trace none.rec at 0 --workers 1 --analyse all => 2 sledge: absent: none.rec
-trace none.rec at 0 --workers 2 => 1 sledge: usage
+trace none.rec at 0 --workers 2 => 2 sledge: absent: none.rec
+trace none.rec at 0 --workers 16 => 2 sledge: absent: none.rec
+trace none.rec at 0 --workers 17 => 1 sledge: usage
+trace none.rec at 0 --workers 0 => 1 sledge: usage
+trace none.rec at 0 --workers 1x => 1 sledge: usage
 trace none.rec at 0 --analyse count => 1 sledge: usage
 trace none.rec at 0 --analyse all --analyse all => 1 sledge: usage
 trace none.rec none.sl => 2 sledge: absent: none.rec

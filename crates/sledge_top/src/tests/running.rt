@@ -1,7 +1,7 @@
 //! Runs commands over files in memory.
 
 use crate::sledge;
-use sl_base::{MemorySink, MemoryStore, MemoryWorld, NoGate};
+use sl_base::{Gate, MemorySink, MemoryStore, MemoryWorld, NoGate};
 use std::alloc::Global;
 use std::test::Fail;
 use std::thread::Threads;
@@ -36,10 +36,23 @@ pub fn told_over<R: Threads + Sync>(
     world: &mut MemoryWorld,
     words: &str,
 ) -> Result<Vec<u8>, Fail> {
-    let mut out = MemorySink::new(alloc, 300, Vec::new(alloc))?;
+    told_at(rt, alloc, store, world, words, 300, &NoGate)
+}
+
+/// The same with so much room for the first output, and a gate.
+pub fn told_at<R: Threads + Sync, G: Gate>(
+    rt: &R,
+    alloc: Global,
+    store: &mut MemoryStore,
+    world: &mut MemoryWorld,
+    words: &str,
+    room: usize,
+    gate: &G,
+) -> Result<Vec<u8>, Fail> {
+    let mut out = MemorySink::new(alloc, room, Vec::new(alloc))?;
     let mut err = MemorySink::new(alloc, 150, Vec::new(alloc))?;
     let words = words_of(alloc, words)?;
-    let status = sledge(rt, alloc, &words, store, world, &mut out, &mut err, &NoGate);
+    let status = sledge(rt, alloc, &words, store, world, &mut out, &mut err, gate);
     let mut text = format!(in alloc; "{} ", status.code())?.into_bytes();
     text.extend_from_slice(out.bytes())?;
     text.extend_from_slice(err.bytes())?;

@@ -13,14 +13,14 @@ at 3 1000c 0 a=5 11=5d
 ";
 
 /// The same with a checkpoint before the last instruction.
-const EXITS_IN_TWO: &str = "\
+pub const EXITS_IN_TWO: &str = "\
 words 0 10000 c 00500513 05d00893 73 0 0 1
 at 2 10008 0 a=5 11=5d
 words 0 5
 at 3 1000c 0 a=5 11=5d
 ";
 
-const EXITS_REPORT: &str = "0 \
+pub const EXITS_REPORT: &str = "0 \
 1,all,2,0,0x00010008,Done,0x00000005
 end,exited,3,,0x0001000c,,0x00000005
 regs,x,,,,,x2=0x7fffffe0 x10=0x00000005 x17=0x0000005d

@@ -9,7 +9,7 @@ use Rattle.sledge_top.proofs.recutting.recut_from.Goals as goal
 
 pub returns-in_err-new-clause-value : goal.returns-in_err-new-clause-value
 unfolding recut_from
-returns-in_err-new-clause-value c =
+returns-in_err-new-clause-value g c =
     let a = c.args in
     let why = c.in_err-new.field-0.0 in
     let p = err_from_is_err_and c.from_residual.result c.from_residual.ensures.1 in
@@ -17,4 +17,4 @@ returns-in_err-new-clause-value c =
 
 pub returns-clause-value : goal.returns-clause-value
 unfolding recut_from
-returns-clause-value c = subst (Gives done_view c.put_recording.result) (sym (ap (λ part. part >>= put_recording c.args.output.now) c.in_ok-new.ensures.value)) c.put_recording.ensures.value
+returns-clause-value g c = subst (Gives done_view c.put_recording.result) (sym (ap (λ part. part >>= put_recording c.args.output.now) c.in_ok-new.ensures.value)) c.put_recording.ensures.value

@@ -13,7 +13,7 @@ use Rattle.sledge_top.proofs.Reports.{records_or_refusal, traced_is, fails_on}
 use Rattle.sledge_top.proofs.trace.traced.Goals as goal
 
 pub returns-in_err-records-clause-text : goal.returns-in_err-records-clause-text
-returns-in_err-records-clause-text c =
+returns-in_err-records-clause-text g c =
     let plan = c.args.plan.now in
     let rec = plan.checkpoints.rec in
     let opened = opened_of plan.checkpoints in
@@ -24,7 +24,7 @@ returns-in_err-records-clause-text c =
     rw (p.1, p.2) (subst (Fails why) (sym is) fails)
 
 pub returns-clause-text : goal.returns-clause-text
-returns-clause-text c =
+returns-clause-text g c =
     let plan = c.args.plan.now in
     let rec = plan.checkpoints.rec in
     let opened = opened_of plan.checkpoints in

@@ -7,7 +7,7 @@ use Rattle.sledge_top.specs.Answer.{traced}
 use Rattle.sledge_top.proofs.trace.traced_from.Goals as goal
 
 pub returns-clause-text : goal.returns-clause-text
-returns-clause-text c =
+returns-clause-text g c =
     let plan = c.in_ok-plan.plan in
     let known = c.in_ok-plan.ensures in
     let same = ap (λ rec. traced rec (tree_of plan.script) (opened_of plan.checkpoints)) known.recording
