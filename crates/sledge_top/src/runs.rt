@@ -2,6 +2,7 @@
 
 ghost use Rattle.std.specs.Prelude.{◌≡◌, ◌<◌, Some, length, slice_get, IfOk};
 ghost use Rattle.sl_base.specs.Refusals.{Tells};
+ghost use Rattle.epoch_core.specs.Posts.{Posted};
 ghost use Rattle.epoch_run.specs.Plans.{values_of};
 ghost use Rattle.sledge_top.specs.Runs.{run_in};
 
@@ -72,6 +73,22 @@ fn count_of(plan: &Plan) -> u32
     plan.epochs()
 }
 
+/// The posts of all epochs of a plan, by so many workers in threads of their own.
+fn posts_of<R: Threads + Sync, G: Gate>(
+    rt: &R,
+    alloc: Global,
+    plan: &Plan,
+    count: u32,
+    workers: u32,
+    gate: &G,
+) -> Result<Vec<Post>, Memory>
+    requires { length (values_of plan.now) ≡ count }
+    ensures { IfOk result (λ posts. Posted (values_of plan.now) posts.items) }
+{
+    let epochs = PlanEpochs { plan };
+    run_all(rt, alloc, &epochs, count, workers, gate)
+}
+
 /// What tracers leave on the run of a plan's recording, or its first break. Each epoch is replayed
 /// by itself, by one of so many workers in threads of their own, and the posts are merged.
 pub fn run_plan<R: Threads + Sync, G: Gate>(
@@ -86,7 +103,6 @@ pub fn run_plan<R: Threads + Sync, G: Gate>(
     values_are_the_run();
     merged_means();
     let count = count_of(plan);
-    let epochs = PlanEpochs { plan };
-    let posts = run_all(rt, alloc, &epochs, count, workers, gate)?;
+    let posts = posts_of(rt, alloc, plan, count, workers, gate)?;
     merge(alloc, count, posts)
 }

@@ -13,7 +13,7 @@ use Rattle.sledge_top.proofs.Reports.{refuses_too}
 use Rattle.sledge_top.proofs.recutting.unbroken.Goals as goal
 
 pub returns-in_err-replay_plan-clause-value : goal.returns-in_err-replay_plan-clause-value
-returns-in_err-replay_plan-clause-value c =
+returns-in_err-replay_plan-clause-value g c =
     let plan = c.in_ok-plan.plan in
     let both : Recording × Image = (c.args.rec, c.args.image) in
     let opened = opened_of plan.checkpoints in
