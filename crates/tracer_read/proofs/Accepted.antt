@@ -27,7 +27,7 @@ record Fine (nodes depth : ℕ) (standing : Standing) : Type 0 where
   inside : depth + trees_depth standing.inside ≤ 64
   outside : Shallow depth standing.outside
 
-skips : {A : Type 0} (c : Bool) (x : A) (y : Option A) → cond c (Some x) y ≡ None → (c ≡ false) × (y ≡ None)
+pub skips : {A : Type 0} (c : Bool) (x : A) (y : Option A) → cond c (Some x) y ≡ None → (c ≡ false) × (y ≡ None)
 skips true x y h = cc
 skips false x y h = (refl, h)
 
@@ -35,11 +35,11 @@ or_false : (a b : Bool) → (a || b) ≡ false → b ≡ false
 or_false true b h = cc
 or_false false b h = h
 
-both_none : (place : ℕ) (c : Option ScriptCause) (later : Option ScriptFault) → first_of place c later ≡ None → (c ≡ None) × (later ≡ None)
+pub both_none : (place : ℕ) (c : Option ScriptCause) (later : Option ScriptFault) → first_of place c later ≡ None → (c ≡ None) × (later ≡ None)
 both_none place (Some cause) later h = cc
 both_none place None later h = (refl, h)
 
-other_than : (n m : ℕ) → (n == m) ≡ false → n ≢ m
+pub other_than : (n m : ℕ) → (n == m) ≡ false → n ≢ m
 other_than n m is e = false≢true (sym is ∙ eq-eqb n m e)
 
 -- a list before what stands behind it
@@ -139,7 +139,7 @@ accepted text nodes depth (token ∷ tokens) few low none =
     (λ more deeper. accepted text (nodes_after b nodes) (depth_after b depth) tokens more deeper both.1)
 
 -- the text is no longer than a script may be
-not_long : (text : List ℕ) (nodes depth : ℕ) (tokens : List Token) → fault_from text nodes depth tokens ≡ None → length text ≤ 65536
+pub not_long : (text : List ℕ) (nodes depth : ℕ) (tokens : List Token) → fault_from text nodes depth tokens ≡ None → length text ≤ 65536
 not_long text nodes depth [] none =
     let long = skips (ltb 65536 (length text)) _ _ none in
     ltb-false 65536 (length text) long.0
@@ -148,7 +148,7 @@ not_long text nodes depth (token ∷ tokens) none =
     let both = both_none token.place (cause_at token.place b nodes depth) (fault_from text (nodes_after b nodes) (depth_after b depth) tokens) none in
     not_long text (nodes_after b nodes) (depth_after b depth) tokens both.1
 
-no_fault : {X : Type 0} (first : Option ScriptFault) (x y : X) → unless first x ≡ Ok y → (first ≡ None) × (x ≡ y)
+pub no_fault : {X : Type 0} (first : Option ScriptFault) (x y : X) → unless first x ≡ Ok y → (first ≡ None) × (x ≡ y)
 no_fault None x y h = (refl, cc)
 no_fault (Some fault) x y h = cc
 

@@ -12,3 +12,10 @@ mod Accepted
 mod SoundScripts
 mod Whole
 mod EachPart
+mod GrammarNames
+mod GrammarExpressions
+mod GrammarStatements
+mod GrammarFunctions
+mod GrammarItems
+mod WrittenNodes
+mod GrammarWhole

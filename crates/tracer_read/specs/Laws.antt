@@ -1,12 +1,14 @@
 -- Laws of what is read, in the subject's own words.
-use Rattle.std.specs.Prelude.{◌≡◌, ℕ, ◌+◌, List, length, is_some, IfOk, if◌then◌else◌}
-use Rattle.tracer_lang.specs.Tree.{Statements, no_statements, statement}
+use Rattle.std.specs.Prelude.{◌≡◌, ℕ, ◌+◌, List, length, is_some, Ok, IfOk, if◌then◌else◌}
+use Rattle.sl_base.specs.declared.symbol.Symbol.{Symbol}
+use Rattle.tracer_lang.specs.Tree.{Statements, no_statements, statement, ScriptTree}
 use Rattle.tracer_text.specs.declared.token.Token.{Token}
 use Rattle.tracer_text.specs.Nodes.{Trees}
 use Rattle.tracer_read.specs.Parts.{part_count}
 use Rattle.tracer_read.specs.Expressions.{Around}
 use Rattle.tracer_read.specs.Statements.{in_order, steps_of}
-use Rattle.tracer_read.specs.Scripts.{Draft, items, nothing}
+use Rattle.tracer_read.specs.Scripts.{Draft, items, nothing, script_of_text}
+use Rattle.tracer_read.specs.GrammarScripts.{IsSpelling}
 
 abbrev pub statement_count : Statements → ℕ
 statement_count no_statements = 0
@@ -28,3 +30,21 @@ abbrev pub EachListStays : Type 0
 EachListStays =
     (around : Around) (trees : Trees)
     → IfOk (items around trees nothing) (λ draft. list_count draft ≡ part_count trees)
+
+-- what a text is read as, it spells
+abbrev pub SpellsWhatIsRead : Type 0
+SpellsWhatIsRead =
+    (text : List ℕ) (symbols : List Symbol) (script : ScriptTree)
+    → script_of_text text symbols ≡ Ok script → IsSpelling text symbols script
+
+-- a text is read as the script that it spells
+abbrev pub ReadsWhatIsSpelled : Type 0
+ReadsWhatIsSpelled =
+    (text : List ℕ) (symbols : List Symbol) (script : ScriptTree)
+    → IsSpelling text symbols script → script_of_text text symbols ≡ Ok script
+
+-- no text spells two scripts
+abbrev pub OneReading : Type 0
+OneReading =
+    (text : List ℕ) (symbols : List Symbol) (script other : ScriptTree)
+    → IsSpelling text symbols script → IsSpelling text symbols other → script ≡ other

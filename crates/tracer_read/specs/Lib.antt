@@ -7,4 +7,8 @@ pub mod Views
 pub mod Statements
 pub mod Scripts
 pub mod Drafts
+pub mod Written
+pub mod Grammar
+pub mod GrammarStatements
+pub mod GrammarScripts
 pub mod Laws
