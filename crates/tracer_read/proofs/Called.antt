@@ -11,11 +11,14 @@ use Rattle.tracer_read.specs.Expressions.{Around, called, callee_names, paramete
 -- what is done with a name, and with its number
 abbrev from_name : Around → ℕ → Trees → Token → Result ℕ ScriptFault
 from_name around place arguments token =
-    or_fault token.place causes.NameUnknown (name_index around.text (callee_names around.callees) token) >>= λ index.
-    unless (not (part_count arguments == slice_index (parameter_counts around.callees) index)) place causes.Arity (Ok index)
+    or_fault token.place causes.NameUnknown (name_index around.text
+    (callee_names around.callees) token) >>= λ index.
+    unless (not (part_count arguments == slice_index (parameter_counts around.callees) index)) place
+    causes.Arity (Ok index)
 
 from_word : (around : Around) (place : ℕ) (f : Tree) (arguments : Trees) (token : Token)
-    → word_of around.text f ≡ Ok token → called around place (tree f arguments) ≡ from_name around place arguments token
+    → word_of around.text f ≡ Ok token → called around place
+    (tree f arguments) ≡ from_name around place arguments token
 from_word around place f arguments token is = ap (λ r. r >>= from_name around place arguments) is
 
 pub called_unknown : (around : Around) (place : ℕ) (f : Tree) (arguments : Trees) (token : Token)
@@ -25,15 +28,19 @@ pub called_unknown : (around : Around) (place : ℕ) (f : Tree) (arguments : Tre
 called_unknown around place f arguments token is none =
     from_word around place f arguments token is
     ∙ ap (λ o. or_fault token.place causes.NameUnknown o >>= λ index.
-    unless (not (part_count arguments == slice_index (parameter_counts around.callees) index)) place causes.Arity (Ok index)) none
+    unless (not (part_count arguments == slice_index (parameter_counts around.callees) index)) place
+    causes.Arity (Ok index)) none
 
-pub called_known : (around : Around) (place : ℕ) (f : Tree) (arguments : Trees) (token : Token) (index parameters : ℕ)
+pub called_known : (around : Around) (place : ℕ) (f : Tree) (arguments : Trees) (token : Token)
+    (index parameters : ℕ)
     → word_of around.text f ≡ Ok token
     → name_index around.text (callee_names around.callees) token ≡ Some index
     → slice_index (parameter_counts around.callees) index ≡ parameters
-    → called around place (tree f arguments) ≡ unless (not (part_count arguments == parameters)) place causes.Arity (Ok index)
+    → called around place (tree f arguments) ≡ unless
+    (not (part_count arguments == parameters)) place causes.Arity (Ok index)
 called_known around place f arguments token index parameters is some counts =
     from_word around place f arguments token is
     ∙ ap (λ o. or_fault token.place causes.NameUnknown o >>= λ index.
-    unless (not (part_count arguments == slice_index (parameter_counts around.callees) index)) place causes.Arity (Ok index)) some
+    unless (not (part_count arguments == slice_index (parameter_counts around.callees) index)) place
+    causes.Arity (Ok index)) some
     ∙ ap (λ n. unless (not (part_count arguments == n)) place causes.Arity (Ok index)) counts

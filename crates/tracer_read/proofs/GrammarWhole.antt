@@ -29,12 +29,16 @@ use Rattle.tracer_read.proofs.GrammarItems.{Adds, item_adds, BudgetRead, Functio
 abbrev names_in : Around → Trees → List Token
 names_in around trees = callee_names (callees around.text trees)
 
-names_without : (around : Around) (t : Tree) (rest : Trees) → callee_at around.text t ≡ None → names_in around (tree t rest) ≡ names_in around rest
-names_without around t rest is = ap (λ o. callee_names (option_to_list o ++ callees around.text rest)) is
+names_without : (around : Around) (t : Tree) (rest : Trees) → callee_at around.text t ≡ None
+    → names_in around (tree t rest) ≡ names_in around rest
+names_without around t rest is = ap (λ o. callee_names
+    (option_to_list o ++ callees around.text rest)) is
 
-names_with : (around : Around) (t : Tree) (rest : Trees) (callee : Callee) → callee_at around.text t ≡ Some callee
+names_with : (around : Around) (t : Tree) (rest : Trees) (callee : Callee)
+    → callee_at around.text t ≡ Some callee
     → names_in around (tree t rest) ≡ callee.name ∷ names_in around rest
-names_with around t rest callee is = ap (λ o. callee_names (option_to_list o ++ callees around.text rest)) is
+names_with around t rest callee is = ap (λ o.
+    callee_names (option_to_list o ++ callees around.text rest)) is
 
 -- ---- what is read is spelled
 
@@ -55,29 +59,42 @@ record Follows (around : Around) (trees : Trees) (d e : Draft) : Type 0 where
   few : length e.tracepoints ≤ 64
 
 -- no second budget behind one
-joins_none : (n : ℕ) (named after : Option ℕ) → Joins (Some n) named after → (named ≡ None) × (after ≡ Some n)
+joins_none : (n : ℕ) (named after : Option ℕ) → Joins (Some n) named after → (named ≡ None)
+    × (after ≡ Some n)
 joins_none n named after (inl h) = h
 joins_none n named after (inr h) = absurd cc
 
-after_budget : (around : Around) (t : Tree) (rest : Trees) (d e g : Draft) → AddsBudget around t d e → Follows around rest e g → Follows around (tree t rest) d g
+after_budget : (around : Around) (t : Tree) (rest : Trees) (d e g : Draft) → AddsBudget around t d e
+    → Follows around rest e g → Follows around (tree t rest) d g
 after_budget around t rest d e g a s =
     let made : Draft = record d { budget = Some a.n } in
-    let joined : Joins (Some a.n) s.named_budget g.budget = subst (λ (e : Draft). Joins e.budget s.named_budget g.budget) a.becomes s.budget in
+    let joined : Joins (Some a.n) s.named_budget g.budget =
+    subst (λ (e : Draft). Joins e.budget s.named_budget g.budget) a.becomes s.budget in
     let none = joins_none a.n s.named_budget g.budget joined in
     record {
       named_budget = Some a.n;
       more_functions = s.more_functions;
       more_tracepoints = s.more_tracepoints;
-      spelled = inl (a.n, refl, a.spelled, subst (λ b. SpellsItems around rest b s.more_functions s.more_tracepoints) none.0 s.spelled);
+      spelled = inl (
+        a.n,
+        refl,
+        a.spelled,
+        subst
+            (λ b. SpellsItems around rest b s.more_functions s.more_tracepoints) none.0 s.spelled,
+      );
       budget = inr (a.first_one, none.1);
       functions = s.functions ∙ ap (λ (e : Draft). e.functions ++ s.more_functions) a.becomes;
-      tracepoints = s.tracepoints ∙ ap (λ (e : Draft). e.tracepoints ++ s.more_tracepoints) a.becomes;
-      names = subst (λ ns. AreNew around.text d.names ns) (sym (names_without around t rest a.no_callee))
-          (subst (λ (e : Draft). AreNew around.text e.names (names_in around rest)) a.becomes s.names);
+      tracepoints = s.tracepoints ∙ ap (λ (e : Draft). e.tracepoints ++ s.more_tracepoints)
+          a.becomes;
+      names = subst (λ ns. AreNew around.text d.names ns)
+          (sym (names_without around t rest a.no_callee))
+          (subst (λ (e : Draft). AreNew around.text e.names (names_in around rest)) a.becomes
+          s.names);
       few = s.few;
     }
 
-after_function : (around : Around) (t : Tree) (rest : Trees) (d e g : Draft) → AddsFunction around t d e → Follows around rest e g → Follows around (tree t rest) d g
+after_function : (around : Around) (t : Tree) (rest : Trees) (d e g : Draft)
+    → AddsFunction around t d e → Follows around rest e g → Follows around (tree t rest) d g
 after_function around t rest d e g a s =
     let behind : AreNew around.text (d.names ++ a.name ∷ []) (names_in around rest) =
     subst (λ (e : Draft). AreNew around.text e.names (names_in around rest)) a.becomes s.names in
@@ -87,13 +104,18 @@ after_function around t rest d e g a s =
       more_tracepoints = s.more_tracepoints;
       spelled = inr (inl (a.function, s.more_functions, refl, a.spelled, s.spelled));
       budget = subst (λ (e : Draft). Joins e.budget s.named_budget g.budget) a.becomes s.budget;
-      functions = s.functions ∙ ap (λ (e : Draft). e.functions ++ s.more_functions) a.becomes ∙ append_assoc d.functions (a.function ∷ []) s.more_functions;
-      tracepoints = s.tracepoints ∙ ap (λ (e : Draft). e.tracepoints ++ s.more_tracepoints) a.becomes;
-      names = subst (λ ns. AreNew around.text d.names ns) (sym (names_with around t rest (record { name = a.name; parameters = a.count }) a.callee_is)) (a.new, behind);
+      functions = s.functions ∙ ap (λ (e : Draft). e.functions ++ s.more_functions) a.becomes
+          ∙ append_assoc d.functions (a.function ∷ []) s.more_functions;
+      tracepoints = s.tracepoints ∙ ap (λ (e : Draft). e.tracepoints ++ s.more_tracepoints)
+          a.becomes;
+      names = subst (λ ns. AreNew around.text d.names ns)
+          (sym (names_with around t rest (record { name = a.name; parameters = a.count })
+          a.callee_is)) (a.new, behind);
       few = s.few;
     }
 
-after_tracepoint : (around : Around) (t : Tree) (rest : Trees) (d e g : Draft) → AddsTracepoint around t d e → Follows around rest e g → Follows around (tree t rest) d g
+after_tracepoint : (around : Around) (t : Tree) (rest : Trees) (d e g : Draft)
+    → AddsTracepoint around t d e → Follows around rest e g → Follows around (tree t rest) d g
 after_tracepoint around t rest d e g a s = record {
   named_budget = s.named_budget;
   more_functions = s.more_functions;
@@ -103,25 +125,32 @@ after_tracepoint around t rest d e g a s = record {
   functions = s.functions ∙ ap (λ (e : Draft). e.functions ++ s.more_functions) a.becomes;
   tracepoints = s.tracepoints ∙ ap (λ (e : Draft). e.tracepoints ++ s.more_tracepoints) a.becomes
       ∙ append_assoc d.tracepoints (a.tracepoint ∷ []) s.more_tracepoints;
-  names = subst (λ ns. AreNew around.text d.names ns) (sym (names_without around t rest a.no_callee))
+  names = subst (λ ns. AreNew around.text d.names ns)
+      (sym (names_without around t rest a.no_callee))
       (subst (λ (e : Draft). AreNew around.text e.names (names_in around rest)) a.becomes s.names);
   few = s.few;
 }
 
-after_item : (around : Around) (t : Tree) (rest : Trees) (d e g : Draft) → Adds around t d e → Follows around rest e g → Follows around (tree t rest) d g
+after_item : (around : Around) (t : Tree) (rest : Trees) (d e g : Draft) → Adds around t d e
+    → Follows around rest e g → Follows around (tree t rest) d g
 after_item around t rest d e g (inl a) s = after_budget around t rest d e g a s
 after_item around t rest d e g (inr (inl a)) s = after_function around t rest d e g a s
 after_item around t rest d e g (inr (inr a)) s = after_tracepoint around t rest d e g a s
 
-few_after : (around : Around) (t : Tree) (d e : Draft) → length d.tracepoints ≤ 64 → Adds around t d e → length e.tracepoints ≤ 64
-few_after around t d e few (inl a) = subst (λ (e : Draft). length e.tracepoints ≤ 64) (sym a.becomes) few
-few_after around t d e few (inr (inl a)) = subst (λ (e : Draft). length e.tracepoints ≤ 64) (sym a.becomes) few
+few_after : (around : Around) (t : Tree) (d e : Draft) → length d.tracepoints ≤ 64
+    → Adds around t d e → length e.tracepoints ≤ 64
+few_after around t d e few (inl a) = subst (λ (e : Draft). length e.tracepoints ≤ 64)
+    (sym a.becomes) few
+few_after around t d e few (inr (inl a)) = subst (λ (e : Draft). length e.tracepoints ≤ 64)
+    (sym a.becomes) few
 few_after around t d e few (inr (inr a)) =
-    let grown : length e.tracepoints ≡ length d.tracepoints + 1 = ap (λ (e : Draft). length e.tracepoints) a.becomes ∙ length_push d.tracepoints a.tracepoint in
+    let grown : length e.tracepoints ≡ length d.tracepoints + 1 =
+    ap (λ (e : Draft). length e.tracepoints) a.becomes ∙ length_push d.tracepoints a.tracepoint in
     let room : length d.tracepoints ≢ 64 = a.room in
     omega (arith, grown, few, room)
 
-items_follow : (around : Around) (trees : Trees) (d : Draft) → length d.tracepoints ≤ 64 → IfOk (items around trees d) (Follows around trees d)
+items_follow : (around : Around) (trees : Trees) (d : Draft) → length d.tracepoints ≤ 64
+    → IfOk (items around trees d) (Follows around trees d)
 items_follow around no_trees d few = record {
   named_budget = None;
   more_functions = [];
@@ -134,14 +163,17 @@ items_follow around no_trees d few = record {
   few = few;
 }
 items_follow around (tree t rest) d few =
-    IfOk-bind (item around t d) (items around rest) (Adds around t d) (Follows around (tree t rest) d) (item_adds around t d) (λ e a.
+    IfOk-bind (item around t d) (items around rest) (Adds around t d)
+    (Follows around (tree t rest) d) (item_adds around t d) (λ e a.
     IfOk-weaker (items around rest e) (Follows around rest e) (Follows around (tree t rest) d)
-    (items_follow around rest e (few_after around t d e few a)) (λ g s. after_item around t rest d e g a s))
+    (items_follow around rest e (few_after around t d e few a))
+    (λ g s. after_item around t rest d e g a s))
 
 -- ---- what is spelled is read
 
 -- what is read of some lists
-record Read (around : Around) (trees : Trees) (d : Draft) (named : Option ℕ) (functions : List FunctionTree) (tracepoints : List TracepointTree) : Type 0 where
+record Read (around : Around) (trees : Trees) (d : Draft) (named : Option ℕ)
+    (functions : List FunctionTree) (tracepoints : List TracepointTree) : Type 0 where
   end : Draft
   is : items around trees d ≡ Ok end
   budget_is : end.budget ≡ option_or named d.budget
@@ -158,13 +190,17 @@ one_budget n before (inr h) = h
 
 abbrev ReadsItems : Around → Trees → Type 0
 ReadsItems around trees =
-    (d : Draft) (named : Option ℕ) (functions : List FunctionTree) (tracepoints : List TracepointTree)
+    (d : Draft) (named : Option ℕ) (functions : List FunctionTree)
+    (tracepoints : List TracepointTree)
     → SpellsItems around trees named functions tracepoints → AtMostOne named d.budget
-    → AreNew around.text d.names (names_in around trees) → length d.tracepoints + length tracepoints ≤ 64
+    → AreNew around.text d.names (names_in around trees)
+    → length d.tracepoints + length tracepoints ≤ 64
     → Read around trees d named functions tracepoints
 
-no_more : (around : Around) (d : Draft) (named : Option ℕ) (functions : List FunctionTree) (tracepoints : List TracepointTree)
-    → SpellsItems around no_trees named functions tracepoints → Read around no_trees d named functions tracepoints
+no_more : (around : Around) (d : Draft) (named : Option ℕ) (functions : List FunctionTree)
+    (tracepoints : List TracepointTree)
+    → SpellsItems around no_trees named functions tracepoints
+    → Read around no_trees d named functions tracepoints
 no_more around d named functions tracepoints h = record {
   end = d;
   is = refl;
@@ -174,16 +210,22 @@ no_more around d named functions tracepoints h = record {
 }
 
 budget_more : (around : Around) (t : Tree) (rest : Trees) → ReadsItems around rest
-    → (d : Draft) (named : Option ℕ) (functions : List FunctionTree) (tracepoints : List TracepointTree)
-    → (h : (n : ℕ) × (named ≡ Some n) × SpellsBudget around n t × SpellsItems around rest None functions tracepoints)
-    → AtMostOne named d.budget → AreNew around.text d.names (names_in around (tree t rest)) → length d.tracepoints + length tracepoints ≤ 64
+    → (d : Draft) (named : Option ℕ) (functions : List FunctionTree)
+    (tracepoints : List TracepointTree)
+    → (h : (n : ℕ) × (named ≡ Some n) × SpellsBudget around n t
+    × SpellsItems around rest None functions tracepoints)
+    → AtMostOne named d.budget → AreNew around.text d.names (names_in around (tree t rest))
+    → length d.tracepoints + length tracepoints ≤ 64
     → Read around (tree t rest) d named functions tracepoints
 budget_more around t rest reads d named functions tracepoints h at_most new few =
     let n = h.0 in
     let b = budget_read around n t h.2 in
-    let none : d.budget ≡ None = one_budget n d.budget (subst (λ o. AtMostOne o d.budget) h.1 at_most) in
+    let none : d.budget ≡ None = one_budget n d.budget
+    (subst (λ o. AtMostOne o d.budget) h.1 at_most) in
     let e : Draft = record d { budget = Some n } in
-    let r = reads e None functions tracepoints h.3 (inl refl) (subst (λ ns. AreNew around.text d.names ns) (names_without around t rest b.no_callee) new) few in
+    let r = reads e None functions tracepoints h.3 (inl refl)
+    (subst (λ ns. AreNew around.text d.names ns) (names_without around t rest b.no_callee) new)
+    few in
     record {
       end = r.end;
       is = ok_bind (item around t d) (items around rest) e (Ok r.end) (b.read d none) r.is;
@@ -193,28 +235,40 @@ budget_more around t rest reads d named functions tracepoints h at_most new few 
     }
 
 function_more : (around : Around) (t : Tree) (rest : Trees) → ReadsItems around rest
-    → (d : Draft) (named : Option ℕ) (functions : List FunctionTree) (tracepoints : List TracepointTree)
-    → (h : (function : FunctionTree) × (more : List FunctionTree) × (functions ≡ function ∷ more) × SpellsFunction around function t × SpellsItems around rest named more tracepoints)
-    → AtMostOne named d.budget → AreNew around.text d.names (names_in around (tree t rest)) → length d.tracepoints + length tracepoints ≤ 64
+    → (d : Draft) (named : Option ℕ) (functions : List FunctionTree)
+    (tracepoints : List TracepointTree)
+    → (h : (function : FunctionTree) × (more : List FunctionTree) × (functions ≡ function ∷ more)
+    × SpellsFunction around function t × SpellsItems around rest named more tracepoints)
+    → AtMostOne named d.budget → AreNew around.text d.names (names_in around (tree t rest))
+    → length d.tracepoints + length tracepoints ≤ 64
     → Read around (tree t rest) d named functions tracepoints
 function_more around t rest reads d named functions tracepoints h at_most new few =
     let f = function_read around h.0 t h.3 in
     let split : AreNew around.text d.names (f.name ∷ names_in around rest) =
-    subst (λ ns. AreNew around.text d.names ns) (names_with around t rest (record { name = f.name; parameters = f.count }) f.callee_is) new in
-    let e : Draft = record d { names = d.names ++ f.name ∷ []; functions = d.functions ++ h.0 ∷ [] } in
+    subst (λ ns. AreNew around.text d.names ns)
+    (names_with around t rest (record { name = f.name; parameters = f.count }) f.callee_is) new in
+    let e : Draft = record d {
+      names = d.names ++ f.name ∷ [];
+      functions = d.functions ++ h.0 ∷ [];
+    } in
     let r = reads e named h.1 tracepoints h.4 at_most split.1 few in
     record {
       end = r.end;
       is = ok_bind (item around t d) (items around rest) e (Ok r.end) (f.read d split.0) r.is;
       budget_is = r.budget_is;
-      functions_are = r.functions_are ∙ append_assoc d.functions (h.0 ∷ []) h.1 ∙ ap (λ fs. d.functions ++ fs) (sym h.2);
+      functions_are = r.functions_are ∙ append_assoc d.functions (h.0 ∷ []) h.1
+          ∙ ap (λ fs. d.functions ++ fs) (sym h.2);
       tracepoints_are = r.tracepoints_are;
     }
 
 tracepoint_more : (around : Around) (t : Tree) (rest : Trees) → ReadsItems around rest
-    → (d : Draft) (named : Option ℕ) (functions : List FunctionTree) (tracepoints : List TracepointTree)
-    → (h : (tracepoint : TracepointTree) × (more : List TracepointTree) × (tracepoints ≡ tracepoint ∷ more) × SpellsTracepoint around tracepoint t × SpellsItems around rest named functions more)
-    → AtMostOne named d.budget → AreNew around.text d.names (names_in around (tree t rest)) → length d.tracepoints + length tracepoints ≤ 64
+    → (d : Draft) (named : Option ℕ) (functions : List FunctionTree)
+    (tracepoints : List TracepointTree)
+    → (h : (tracepoint : TracepointTree) × (more : List TracepointTree)
+    × (tracepoints ≡ tracepoint ∷ more) × SpellsTracepoint around tracepoint t
+    × SpellsItems around rest named functions more)
+    → AtMostOne named d.budget → AreNew around.text d.names (names_in around (tree t rest))
+    → length d.tracepoints + length tracepoints ≤ 64
     → Read around (tree t rest) d named functions tracepoints
 tracepoint_more around t rest reads d named functions tracepoints h at_most new few =
     let p = tracepoint_read around h.0 t h.3 in
@@ -222,28 +276,36 @@ tracepoint_more around t rest reads d named functions tracepoints h at_most new 
     let room : length d.tracepoints ≢ 64 = λ full. omega (arith, full, few, count) in
     let e : Draft = record d { tracepoints = d.tracepoints ++ h.0 ∷ [] } in
     let grown : length e.tracepoints ≡ length d.tracepoints + 1 = length_push d.tracepoints h.0 in
-    let r = reads e named functions h.1 h.4 at_most (subst (λ ns. AreNew around.text d.names ns) (names_without around t rest p.no_callee) new) (omega (arith, grown, few, count)) in
+    let r = reads e named functions h.1 h.4 at_most
+    (subst (λ ns. AreNew around.text d.names ns) (names_without around t rest p.no_callee) new)
+    (omega (arith, grown, few, count)) in
     record {
       end = r.end;
       is = ok_bind (item around t d) (items around rest) e (Ok r.end) (p.read d room) r.is;
       budget_is = r.budget_is;
       functions_are = r.functions_are;
-      tracepoints_are = r.tracepoints_are ∙ append_assoc d.tracepoints (h.0 ∷ []) h.1 ∙ ap (λ ts. d.tracepoints ++ ts) (sym h.2);
+      tracepoints_are = r.tracepoints_are ∙ append_assoc d.tracepoints (h.0 ∷ []) h.1
+          ∙ ap (λ ts. d.tracepoints ++ ts) (sym h.2);
     }
 
 items_read : (around : Around) (trees : Trees) → ReadsItems around trees
-items_read around no_trees d named functions tracepoints h at_most new few = no_more around d named functions tracepoints h
+items_read around no_trees d named functions tracepoints h at_most new few =
+    no_more around d named functions tracepoints h
 items_read around (tree t rest) d named functions tracepoints (inl h) at_most new few =
-    budget_more around t rest (items_read around rest) d named functions tracepoints h at_most new few
+    budget_more around t rest (items_read around rest) d named functions tracepoints h at_most new
+    few
 items_read around (tree t rest) d named functions tracepoints (inr (inl h)) at_most new few =
-    function_more around t rest (items_read around rest) d named functions tracepoints h at_most new few
+    function_more around t rest (items_read around rest) d named functions tracepoints h at_most new
+    few
 items_read around (tree t rest) d named functions tracepoints (inr (inr h)) at_most new few =
-    tracepoint_more around t rest (items_read around rest) d named functions tracepoints h at_most new few
+    tracepoint_more around t rest (items_read around rest) d named functions tracepoints h at_most
+    new few
 
 -- ---- the first pass
 
 -- a text of the right size is read whole
-first_pass-is : (text : List ℕ) (tokens : List Token) → first_pass text ≡ Ok tokens → (fault_of text ≡ None) × (tokens_of text ≡ tokens)
+first_pass-is : (text : List ℕ) (tokens : List Token) → first_pass text ≡ Ok tokens
+    → (fault_of text ≡ None) × (tokens_of text ≡ tokens)
 first_pass-is text tokens is =
     let part = read_part text in
     let passed = no_fault (fault_of part) (tokens_of part) tokens is in
@@ -267,24 +329,30 @@ spelled_nodes : (text : List ℕ) (symbols : List Symbol) (trees : Trees)
     → IfOk (second_pass text symbols trees) (λ script. SpellsScript text symbols script trees)
 spelled_nodes text symbols trees =
     let around = surroundings text symbols trees in
-    IfOk-bind (items around trees nothing) _ (Follows around trees nothing) (λ script. SpellsScript text symbols script trees)
+    IfOk-bind (items around trees nothing) _ (Follows around trees nothing)
+    (λ script. SpellsScript text symbols script trees)
     (items_follow around trees nothing (omega arith)) (λ d s.
-    let Spelled : List FunctionTree → List TracepointTree → Type 0 = λ fs ts. SpellsItems around trees s.named_budget fs ts in
+    let Spelled : List FunctionTree → List TracepointTree → Type 0 = λ fs ts.
+    SpellsItems around trees s.named_budget fs ts in
     record {
       named_budget = s.named_budget;
-      items = subst (λ ts. Spelled d.functions ts) (sym s.tracepoints) (subst (λ fs. Spelled fs s.more_tracepoints) (sym s.functions) s.spelled);
+      items = subst (λ ts. Spelled d.functions ts) (sym s.tracepoints)
+          (subst (λ fs. Spelled fs s.more_tracepoints) (sym s.functions) s.spelled);
       budget = ap (λ b. unwrap_or b 1000000) (budget_named s.named_budget d.budget s.budget);
       names = s.names;
       few = s.few;
     })
 
-spelled_text : (text : List ℕ) (symbols : List Symbol) → IfOk (script_of_text text symbols) (IsSpelling text symbols)
+spelled_text : (text : List ℕ) (symbols : List Symbol)
+    → IfOk (script_of_text text symbols) (IsSpelling text symbols)
 unfolding script_of_text
 spelled_text text symbols =
-    IfOk-then (first_pass text) (λ tokens. second_pass text symbols (nodes_from text tokens).inside) (IsSpelling text symbols) (λ tokens passed.
+    IfOk-then (first_pass text) (λ tokens. second_pass text symbols (nodes_from text tokens).inside)
+    (IsSpelling text symbols) (λ tokens passed.
     let form = first_pass-is text tokens passed in
     let nodes = λ (tokens : List Token). (nodes_from text tokens).inside in
-    IfOk-weaker (second_pass text symbols (nodes tokens)) (λ script. SpellsScript text symbols script (nodes tokens)) (IsSpelling text symbols)
+    IfOk-weaker (second_pass text symbols (nodes tokens))
+    (λ script. SpellsScript text symbols script (nodes tokens)) (IsSpelling text symbols)
     (spelled_nodes text symbols (nodes tokens)) (λ script s. record {
       in_order = form.0;
       nodes = nodes (tokens_of text);
@@ -293,13 +361,15 @@ spelled_text text symbols =
     }))
 
 pub spells_what_is_read : SpellsWhatIsRead
-spells_what_is_read text symbols script is = of_value (script_of_text text symbols) script (IsSpelling text symbols) (spelled_text text symbols) is
+spells_what_is_read text symbols script is = of_value (script_of_text text symbols) script
+    (IsSpelling text symbols) (spelled_text text symbols) is
 
 or_none : (o : Option ℕ) → option_or o None ≡ o
 or_none None = refl
 or_none (Some n) = refl
 
-same_script : (s : ScriptTree) (n : ℕ) (fs : List FunctionTree) (ts : List TracepointTree) → n ≡ s.budget → fs ≡ s.functions → ts ≡ s.tracepoints
+same_script : (s : ScriptTree) (n : ℕ) (fs : List FunctionTree) (ts : List TracepointTree)
+    → n ≡ s.budget → fs ≡ s.functions → ts ≡ s.tracepoints
     → record { budget = n; functions = fs; tracepoints = ts } ≡ s
 same_script s n fs ts h k l =
     ap (λ n. record { budget = n; functions = fs; tracepoints = ts }) h
@@ -310,20 +380,26 @@ read_nodes : (text : List ℕ) (symbols : List Symbol) (script : ScriptTree) (tr
     → SpellsScript text symbols script trees → second_pass text symbols trees ≡ Ok script
 read_nodes text symbols script trees s =
     let around = surroundings text symbols trees in
-    let r = items_read around trees nothing s.named_budget script.functions script.tracepoints s.items (inr refl) s.names (omega (arith, s.few)) in
+    let r = items_read around trees nothing s.named_budget script.functions script.tracepoints
+    s.items (inr refl) s.names (omega (arith, s.few)) in
     let budget_is : unwrap_or r.end.budget 1000000 ≡ script.budget =
     ap (λ b. unwrap_or b 1000000) (r.budget_is ∙ or_none s.named_budget) ∙ sym s.budget in
     ok_bind (items around trees nothing) (λ d. Ok (script_from d)) r.end (Ok script) r.is
-    (ap Ok (same_script script (unwrap_or r.end.budget 1000000) r.end.functions r.end.tracepoints budget_is r.functions_are r.tracepoints_are))
+    (ap Ok (same_script script (unwrap_or r.end.budget 1000000) r.end.functions r.end.tracepoints
+    budget_is r.functions_are r.tracepoints_are))
 
 pub reads_what_is_spelled : ReadsWhatIsSpelled
 unfolding script_of_text
 reads_what_is_spelled text symbols script s =
-    let same : (nodes_from text (tokens_of text)).inside ≡ s.nodes = written_nodes text s.nodes (tokens_of text) s.written in
-    ok_bind (first_pass text) (λ tokens. second_pass text symbols (nodes_from text tokens).inside) (tokens_of text) (Ok script)
-    (passes text s.in_order) (ap (second_pass text symbols) same ∙ read_nodes text symbols script s.nodes s.spelled)
+    let same : (nodes_from text (tokens_of text)).inside ≡ s.nodes =
+    written_nodes text s.nodes (tokens_of text) s.written in
+    ok_bind (first_pass text) (λ tokens. second_pass text symbols (nodes_from text tokens).inside)
+    (tokens_of text) (Ok script)
+    (passes text s.in_order) (ap (second_pass text symbols) same
+    ∙ read_nodes text symbols script s.nodes s.spelled)
 
 pub one_reading : OneReading
 one_reading text symbols script other s t =
-    let both : Ok script ≡ Ok other = sym (reads_what_is_spelled text symbols script s) ∙ reads_what_is_spelled text symbols other t in
+    let both : Ok script ≡ Ok other = sym (reads_what_is_spelled text symbols script s)
+    ∙ reads_what_is_spelled text symbols other t in
     cc (both)

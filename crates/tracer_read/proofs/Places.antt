@@ -19,10 +19,12 @@ pub position-map : {X Y : Type 0} (p : Y → Bool) (f : X → Y) (xs : List X)
     → position p (map f xs) ≡ position (λ x. p (f x)) xs
 position-map p f xs =
     ap (λ n. cond (ltb n (length (map f xs))) (Some n) None) (prefix_len-map (λ y. not (p y)) f xs)
-    ∙ ap (λ n. cond (ltb (prefix_len (λ x. not (p (f x))) xs) n) (Some (prefix_len (λ x. not (p (f x))) xs)) None) (length-map xs f)
+    ∙ ap (λ n. cond (ltb (prefix_len (λ x. not (p (f x))) xs) n)
+    (Some (prefix_len (λ x. not (p (f x))) xs)) None) (length-map xs f)
 
 -- the number of the first function of a name
-pub callee_index : (text name : List ℕ) (token : Token) (fs : List Signature) → name ≡ spelling text token
+pub callee_index : (text name : List ℕ) (token : Token) (fs : List Signature)
+    → name ≡ spelling text token
     → name_index text (callee_names (map callee_of fs)) token
     ≡ position (λ (f : Signature). bytes_eq (spelling text f.name) name) fs
 callee_index text name token fs is =
@@ -36,7 +38,8 @@ callee_index text name token fs is =
 
 -- the number of its parameters
 pub callee_parameters : (fs : List Signature) (i : ℕ) (d : Signature) → i < length fs
-    → get_or (parameter_counts (map callee_of fs)) i 0 ≡ part_count (trees_of (get_or fs i d).parameters.now)
+    → get_or (parameter_counts (map callee_of fs)) i 0 ≡ part_count
+    (trees_of (get_or fs i d).parameters.now)
 callee_parameters [] i d lt = absurd (omega arith)
 callee_parameters (x ∷ fs) zero d lt = refl
 callee_parameters (x ∷ fs) (suc i) d lt = callee_parameters fs i d (omega arith)

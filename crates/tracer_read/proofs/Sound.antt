@@ -24,18 +24,21 @@ abbrev mutual
   trees_depth no_trees = 0
   trees_depth (tree first rest) = max (tree_depth first) (trees_depth rest)
 
-pub IfOk-bind : {A B : Type 0} (r : Result A ScriptFault) (f : A → Result B ScriptFault) (P : A → Type 0) (Q : B → Type 0)
+pub IfOk-bind : {A B : Type 0} (r : Result A ScriptFault) (f : A → Result B ScriptFault)
+    (P : A → Type 0) (Q : B → Type 0)
     → IfOk r P → ((x : A) → P x → IfOk (f x) Q) → IfOk (r >>= f) Q
 IfOk-bind (Ok x) f P Q h k = k x h
 IfOk-bind (Err e) f P Q h k = tt
 
 -- where it matters that the first step gave its value
-pub IfOk-then : {A B : Type 0} (r : Result A ScriptFault) (f : A → Result B ScriptFault) (Q : B → Type 0)
+pub IfOk-then : {A B : Type 0} (r : Result A ScriptFault) (f : A → Result B ScriptFault)
+    (Q : B → Type 0)
     → ((x : A) → r ≡ Ok x → IfOk (f x) Q) → IfOk (r >>= f) Q
 IfOk-then (Ok x) f Q k = k x refl
 IfOk-then (Err e) f Q k = tt
 
-pub IfOk-unless : {A : Type 0} (b : Bool) (place : ℕ) (cause : ScriptCause) (r : Result A ScriptFault) (Q : A → Type 0)
+pub IfOk-unless : {A : Type 0} (b : Bool) (place : ℕ) (cause : ScriptCause)
+    (r : Result A ScriptFault) (Q : A → Type 0)
     → (b ≡ false → IfOk r Q) → IfOk (unless b place cause r) Q
 IfOk-unless true place cause r Q k = tt
 IfOk-unless false place cause r Q k = k refl

@@ -18,7 +18,8 @@ statement_count (statement first rest) = 1 + statement_count rest
 abbrev pub EachStatementStays : Type 0
 EachStatementStays =
     (around : Around) (trees : Trees) (locals : List Token)
-    → IfOk (in_order (steps_of around trees) locals) (λ read. statement_count read.0 ≡ part_count trees)
+    → IfOk (in_order (steps_of around trees) locals)
+    (λ read. statement_count read.0 ≡ part_count trees)
 
 -- how many lists of the top level are read
 abbrev pub list_count : Draft → ℕ

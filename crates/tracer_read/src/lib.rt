@@ -12,7 +12,9 @@ mod reading;
 mod scripts;
 mod statements;
 
-pub use laws::{each_list_stays, each_statement_stays, one_reading, reads_what_is_spelled, spells_what_is_read};
+pub use laws::{
+    each_list_stays, each_statement_stays, one_reading, reads_what_is_spelled, spells_what_is_read,
+};
 pub use reading::read_script;
 
 #[cfg(test)]

@@ -11,10 +11,12 @@ seven_digits n i fits few =
 
 pub overflow_mul-value : goal.overflow_mul-value
 overflow_mul-value c =
-    let below = seven_digits c.loop-digit.value c.loop-digit.digit-index c.loop-digit.invariant.fits (omega arith) in
+    let below = seven_digits c.loop-digit.value c.loop-digit.digit-index c.loop-digit.invariant.fits
+    (omega arith) in
     omega arith
 
 pub overflow_add-value : goal.overflow_add-value
 overflow_add-value c =
-    let below = seven_digits c.loop-digit.value c.loop-digit.digit-index c.loop-digit.invariant.fits (omega arith) in
+    let below = seven_digits c.loop-digit.value c.loop-digit.digit-index c.loop-digit.invariant.fits
+    (omega arith) in
     omega (arith, c.in_ok-value.ensures.value)

@@ -7,4 +7,5 @@ use Rattle.tracer_read.proofs.scripts.read_items.Given as goal
 
 abbrev pub invariant-loop-left : goal.invariant-loop-left
 invariant-loop-left l =
-    items (around l.context) (trees_of l.left) (draft_of l.draft) ≡ items (around l.context) (trees_of l.nodes) nothing
+    items (around l.context) (trees_of l.left) (draft_of l.draft) ≡ items (around l.context)
+    (trees_of l.nodes) nothing

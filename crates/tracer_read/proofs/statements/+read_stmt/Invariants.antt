@@ -11,6 +11,7 @@ abbrev pub invariant-read_block-loop-left : goal.invariant-read_block-loop-left
 invariant-read_block-loop-left l = record {
   within : size-Nodes l.left ≤ size-Nodes l.nodes;
   few : length l.locals.items ≤ 16;
-  whole : with_statements l.read.items (in_order (steps_of (around l.context) (trees_of l.left)) l.locals.items)
+  whole : with_statements l.read.items (in_order
+      (steps_of (around l.context) (trees_of l.left)) l.locals.items)
       ≡ in_order (steps_of (around l.context) (trees_of l.nodes)) l.initial.locals.items;
 }
