@@ -11,7 +11,7 @@ use Rattle.tracer_text.specs.Tokens.{tokens_of}
 use Rattle.tracer_text.specs.Nodes as text_nodes
 use Rattle.tracer_text.specs.Nodes.{Tree, atom, list, Trees, no_trees, tree, Standing, before, nodes_from, rest_of}
 use Rattle.tracer_read.specs.Parts.{part_count}
-use Rattle.tracer_read.proofs.Sound.{trees_nodes, trees_depth}
+use Rattle.tracer_read.specs.Written.{trees_nodes, trees_depth}
 
 abbrev outside_nodes : List Trees → ℕ
 outside_nodes [] = 0

@@ -17,9 +17,11 @@ use Rattle.tracer_read.specs.GrammarStatements.{IsNew}
 use Rattle.tracer_read.specs.GrammarScripts.{AreNew, SpellsItems, SpellsBudget, SpellsFunction, SpellsTracepoint, SpellsScript, IsSpelling}
 use Rattle.tracer_read.specs.Laws.{SpellsWhatIsRead, ReadsWhatIsSpelled, OneReading}
 use Rattle.tracer_read.proofs.Sound.{IfOk-bind, IfOk-then, IfOk-weaker}
-use Rattle.tracer_read.proofs.Accepted.{no_fault, not_long}
+use Rattle.tracer_read.proofs.Accepted.{no_fault, not_long, first_pass-small}
 use Rattle.tracer_read.proofs.GrammarNames.{ok_bind, of_value}
 use Rattle.tracer_read.proofs.GrammarFunctions.{AddsBudget, AddsFunction, AddsTracepoint}
+use Rattle.tracer_read.specs.Written.{trees_nodes, trees_depth}
+use Rattle.tracer_read.proofs.WrittenPasses.{written_passes}
 use Rattle.tracer_read.proofs.WrittenNodes.{nodes_written, written_nodes}
 use Rattle.tracer_read.proofs.GrammarItems.{Adds, item_adds, BudgetRead, FunctionRead, TracepointRead, budget_read, function_read, tracepoint_read}
 
@@ -353,11 +355,16 @@ spelled_text text symbols =
     let nodes = λ (tokens : List Token). (nodes_from text tokens).inside in
     IfOk-weaker (second_pass text symbols (nodes tokens))
     (λ script. SpellsScript text symbols script (nodes tokens)) (IsSpelling text symbols)
-    (spelled_nodes text symbols (nodes tokens)) (λ script s. record {
-      in_order = form.0;
+    (spelled_nodes text symbols (nodes tokens)) (λ script s.
+    let same = λ (P : Trees → Type 0). subst (λ tokens. P (nodes tokens)) (sym form.1) in
+    let small = first_pass-small text tokens passed in
+    record {
+      short = not_long text 0 0 (tokens_of text) form.0;
       nodes = nodes (tokens_of text);
       written = nodes_written text form.0;
-      spelled = subst (λ tokens. SpellsScript text symbols script (nodes tokens)) (sym form.1) s;
+      few_nodes = same (λ nodes. trees_nodes nodes ≤ 4096) small.few;
+      shallow = same (λ nodes. trees_depth nodes ≤ 64) small.shallow;
+      spelled = same (SpellsScript text symbols script) s;
     }))
 
 pub spells_what_is_read : SpellsWhatIsRead
@@ -395,7 +402,8 @@ reads_what_is_spelled text symbols script s =
     written_nodes text s.nodes (tokens_of text) s.written in
     ok_bind (first_pass text) (λ tokens. second_pass text symbols (nodes_from text tokens).inside)
     (tokens_of text) (Ok script)
-    (passes text s.in_order) (ap (second_pass text symbols) same
+    (passes text (written_passes text s.nodes s.short s.written s.few_nodes s.shallow))
+    (ap (second_pass text symbols) same
     ∙ read_nodes text symbols script s.nodes s.spelled)
 
 pub one_reading : OneReading

@@ -18,4 +18,5 @@ mod GrammarStatements
 mod GrammarFunctions
 mod GrammarItems
 mod WrittenNodes
+mod WrittenPasses
 mod GrammarWhole

@@ -5,25 +5,6 @@ use Rattle.tracer_text.specs.declared.fault.ScriptFault.{ScriptFault}
 use Rattle.tracer_text.specs.Nodes.{Tree, atom, list, Trees, no_trees, tree}
 use Rattle.tracer_read.specs.Parts.{◌>>=◌, or_fault, unless}
 
--- how many nodes there are, and how many lists stand within one another
-abbrev mutual
-  pub tree_nodes : Tree → ℕ
-  tree_nodes (atom token) = 1
-  tree_nodes (list place trees) = 1 + trees_nodes trees
-
-  pub trees_nodes : Trees → ℕ
-  trees_nodes no_trees = 0
-  trees_nodes (tree first rest) = tree_nodes first + trees_nodes rest
-
-abbrev mutual
-  pub tree_depth : Tree → ℕ
-  tree_depth (atom token) = 0
-  tree_depth (list place trees) = 1 + trees_depth trees
-
-  pub trees_depth : Trees → ℕ
-  trees_depth no_trees = 0
-  trees_depth (tree first rest) = max (tree_depth first) (trees_depth rest)
-
 pub IfOk-bind : {A B : Type 0} (r : Result A ScriptFault) (f : A → Result B ScriptFault)
     (P : A → Type 0) (Q : B → Type 0)
     → IfOk r P → ((x : A) → P x → IfOk (f x) Q) → IfOk (r >>= f) Q

@@ -15,7 +15,8 @@ use Rattle.tracer_read.specs.Numbers.{is_number, number_value}
 use Rattle.tracer_read.specs.Heads.{expression_head}
 use Rattle.tracer_read.specs.Parts.{◌>>=◌, or_fault, spelling, place_of, word_of, number_of, number_within, name_index, symbol_value, symbol_of, no_part, only_part, part_count, one, two}
 use Rattle.tracer_read.specs.Expressions.{Around, head, value, all, callee_names, parameter_counts, called, expression, expressions, expression_form}
-use Rattle.tracer_read.proofs.Sound.{tree_nodes, trees_nodes, tree_depth, trees_depth, IfOk-bind, IfOk-then, IfOk-unless, IfOk-or_fault, IfOk-weaker, IfOk-cond, both_true, not_false}
+use Rattle.tracer_read.specs.Written.{tree_nodes, trees_nodes, tree_depth, trees_depth}
+use Rattle.tracer_read.proofs.Sound.{IfOk-bind, IfOk-then, IfOk-unless, IfOk-or_fault, IfOk-weaker, IfOk-cond, both_true, not_false}
 use Rattle.tracer_read.proofs.SmallNumbers.{number_value-small, position-below}
 
 -- symbols stand for words

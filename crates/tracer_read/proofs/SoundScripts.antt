@@ -23,7 +23,8 @@ use Rattle.tracer_read.specs.Parts.{◌>>=◌, place_of, word_of, number_of, num
 use Rattle.tracer_read.specs.Expressions.{Callee, Around, head, parameter_counts}
 use Rattle.tracer_read.specs.Statements.{in_order, steps_of}
 use Rattle.tracer_read.specs.Scripts.{is_def, callee_named, callee_from, callee_if, callee_at, callees, Draft, budget_form, parameters_of, def_form, store_point, point_form, point_of, at_form, item_form, item, items, nothing, script_from, surroundings}
-use Rattle.tracer_read.proofs.Sound.{tree_nodes, trees_nodes, tree_depth, trees_depth, IfOk-bind, IfOk-then, IfOk-unless, IfOk-weaker, IfSome-cond, both_true, not_false}
+use Rattle.tracer_read.specs.Written.{tree_nodes, trees_nodes, tree_depth, trees_depth}
+use Rattle.tracer_read.proofs.Sound.{IfOk-bind, IfOk-then, IfOk-unless, IfOk-weaker, IfSome-cond, both_true, not_false}
 use Rattle.tracer_read.proofs.Accepted.{Small}
 use Rattle.tracer_read.proofs.SoundExpressions.{AreWords, number_of-small, number_within-within, symbol_of-small}
 use Rattle.tracer_read.proofs.SoundStatements.{new_local-grows, BlockSound, block_sound}

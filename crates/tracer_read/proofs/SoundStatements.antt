@@ -15,7 +15,8 @@ use Rattle.tracer_read.specs.Heads.{statement_head}
 use Rattle.tracer_read.specs.Parts.{or_fault, word_of, name_index, new_name, new_local, two_parts, one, two}
 use Rattle.tracer_read.specs.Expressions.{Around, head, parameter_counts, expression, expressions}
 use Rattle.tracer_read.specs.Statements.{in_order, var_form, set_form, if_form, while_form, statement_form, step_of, steps_of}
-use Rattle.tracer_read.proofs.Sound.{tree_nodes, trees_nodes, tree_depth, trees_depth, IfOk-bind, IfOk-then, IfOk-unless, IfOk-or_fault, IfOk-weaker}
+use Rattle.tracer_read.specs.Written.{tree_nodes, trees_nodes, tree_depth, trees_depth}
+use Rattle.tracer_read.proofs.Sound.{IfOk-bind, IfOk-then, IfOk-unless, IfOk-or_fault, IfOk-weaker}
 use Rattle.tracer_read.proofs.SmallNumbers.{position-below}
 use Rattle.tracer_read.proofs.Monotone.{FitsExpression-more, FitsStatement-more}
 use Rattle.tracer_read.proofs.SoundExpressions.{AreWords, Sound, BothSound, expression_sound, one_sound, two_sound}

@@ -1,17 +1,31 @@
 -- The nodes of a text without a fault are those that its tokens are written for, and no others are.
 use Rattle.std.proofs.Common.{◌≡◌, ◌≢◌, ℕ, zero, suc, ◌+◌, ◌-◌, ◌==◌, ◌&&◌, ◌||◌, Bool, true, false, not, cond, List, [], ◌∷◌, ◌++◌, length, ltb, slice_index, Option, Some, None, refl, sym, ap, subst, ◌∙◌, ⊎_elim, arith, append_assoc}
-use Rattle.std.proofs.lemmas.Bool.{eqb-true}
+use Rattle.std.proofs.lemmas.Bool.{eqb-true, false≢true}
 use Rattle.std.proofs.lemmas.Bool.Decides.{eqb_tells}
 use Rattle.std.proofs.lemmas.List.{append-nil}
 use Rattle.tracer_text.specs.declared.fault.ScriptFault.{ScriptFault}
 use Rattle.tracer_text.specs.declared.token.Token.{Token}
 use Rattle.tracer_text.specs.FirstPass.{is_stray, cause_at, nodes_after, depth_after, fault_from, fault_of}
-use Rattle.tracer_text.specs.Tokens.{tokens_of}
+use Rattle.tracer_text.specs.Tokens.{is_run_byte, tokens_of}
 use Rattle.tracer_text.specs.Nodes as text_nodes
 use Rattle.tracer_text.specs.Nodes.{Tree, atom, list, Trees, no_trees, tree, Standing, before, nodes_from, rest_of}
 use Rattle.tracer_read.specs.Written.{first_byte, IsWritten, AreWritten}
 use Rattle.tracer_read.proofs.Accepted.{skips, both_none, other_than}
 use Rattle.tracer_read.proofs.GrammarNames.{is_false}
+
+-- ---- bytes of names and numbers
+
+-- a byte that is neither stray nor a parenthesis is one of them
+runs : (r p q : Bool) → not (r || p || q) ≡ false → p ≡ false → q ≡ false → r ≡ true
+runs true p q h no_p no_q = refl
+runs false true q h no_p no_q = absurd cc
+runs false false true h no_p no_q = absurd cc
+runs false false false h no_p no_q = absurd cc
+
+-- and no parenthesis is
+pub no_parenthesis : (b : ℕ) → is_run_byte b ≡ true → (b ≢ 40) × (b ≢ 41)
+no_parenthesis b is =
+    (λ e. false≢true (ap is_run_byte (sym e) ∙ is), λ e. false≢true (ap is_run_byte (sym e) ∙ is))
 
 -- ---- what a token makes of what stands behind it
 
@@ -127,18 +141,17 @@ opening_stands text depth token standing tokens is behind =
 
 atom_stands : (text : List ℕ) (depth b : ℕ) (token : Token) (standing : Standing)
     (tokens : List Token)
-    → first_byte text token ≡ b → b ≢ 40 → b ≢ 41
-    → Stands text depth standing tokens → Stands text depth (before b token standing)
-    (token ∷ tokens)
-atom_stands text depth b token standing tokens is no_opening no_closing behind =
-    let P : ℕ → Type 0 = λ b. (b ≢ 40) × (b ≢ 41) in
-    let parens : P (first_byte text token) = subst P (sym is) (no_opening, no_closing) in
+    → first_byte text token ≡ b → is_run_byte b ≡ true
+    → Stands text depth standing tokens
+    → Stands text depth (before b token standing) (token ∷ tokens)
+atom_stands text depth b token standing tokens is run behind =
+    let no_paren = no_parenthesis b run in
+    let begins : is_run_byte (first_byte text token) ≡ true = ap is_run_byte is ∙ run in
+    let front = standing.inside in
+    let more = one_more text (atom token) (token ∷ []) front standing.outside tokens
+    (refl, begins) behind.0 in
     subst (λ (s : Standing). Stands text depth s (token ∷ tokens))
-    (sym (before_atom token standing b no_opening no_closing)) (
-      one_more text (atom token) (token ∷ []) standing.inside standing.outside tokens
-          (refl, parens.0, parens.1) behind.0,
-      behind.1,
-    )
+    (sym (before_atom token standing b no_paren.0 no_paren.1)) (more, behind.1)
 
 token_stands : (text : List ℕ) (place nodes depth b : ℕ) (token : Token) (standing : Standing)
     (tokens : List Token)
@@ -162,7 +175,9 @@ token_stands text place nodes depth b token standing tokens =
     let same : depth_after b depth ≡ depth =
     ap (λ c. cond c (depth + 1) (cond (b == 41) (depth - 1) depth)) no_opening.0
     ∙ ap (λ c. cond c (depth - 1) depth) no_closing.0 in
-    atom_stands text depth b token standing tokens is no_opening.1 no_closing.1
+    let stray = skips (is_stray b) _ _ none in
+    let run = runs (is_run_byte b) (b == 40) (b == 41) stray.0 no_opening.0 no_closing.0 in
+    atom_stands text depth b token standing tokens is run
     (subst (λ d. Stands text d standing tokens) same behind))
     (eqb_tells b 40))
     (eqb_tells b 41)
@@ -216,7 +231,8 @@ mutual
       → nodes_from text (tokens ++ behind) ≡ in_front (tree t no_trees) (nodes_from text behind)
   node_found text (atom token) tokens behind h =
       ap (λ ts. nodes_from text (ts ++ behind)) h.0
-      ∙ before_atom token (nodes_from text behind) (first_byte text token) h.1 h.2
+      ∙ before_atom token (nodes_from text behind) (first_byte text token)
+      (no_parenthesis (first_byte text token) h.1).0 (no_parenthesis (first_byte text token) h.1).1
   node_found text (list place parts) tokens behind h =
       let opening = h.0 in
       let between = h.1 in

@@ -6,7 +6,6 @@ use Rattle.tracer_lang.specs.declared.tree.Point.TheVariants as points
 use Rattle.tracer_lang.specs.Tree.{FunctionTree, TracepointTree, ScriptTree}
 use Rattle.tracer_text.specs.declared.token.Token.{Token}
 use Rattle.tracer_text.specs.Tokens.{tokens_of}
-use Rattle.tracer_text.specs.FirstPass.{fault_of}
 use Rattle.tracer_text.specs.Nodes.{Tree, atom, list, Trees, no_trees, tree}
 use Rattle.tracer_read.specs.declared.heads.ItemHead.{ItemHead}
 use Rattle.tracer_read.specs.declared.heads.ItemHead.TheVariants.{Budget, Def, At}
@@ -15,7 +14,7 @@ use Rattle.tracer_read.specs.declared.heads.PointHead.TheVariants.{Addr, Enter, 
 use Rattle.tracer_read.specs.Heads.{named, item_names, point_names}
 use Rattle.tracer_read.specs.Expressions.{Around, callee_names}
 use Rattle.tracer_read.specs.Scripts.{surroundings}
-use Rattle.tracer_read.specs.Written.{AreWritten}
+use Rattle.tracer_read.specs.Written.{AreWritten, trees_nodes, trees_depth}
 use Rattle.tracer_read.specs.Grammar.{IsNumber, IsWord, IsForm, FirstPart, OnePart, TwoParts, NamesSymbol}
 use Rattle.tracer_read.specs.GrammarStatements.{IsNew, SpellsStatements}
 
@@ -133,10 +132,12 @@ pub record SpellsScript (text : List ℕ) (symbols : List Symbol) (script : Scri
   -- at most 64 tracepoints
   pub few : length script.tracepoints ≤ 64
 
--- A text spells a script: its bytes, its parentheses and its size are in order, its tokens are
--- written for some nodes, and these spell the script.
+-- A text spells a script: it has at most 65,536 bytes, its tokens are written for at most 4,096
+-- nodes, at most 64 lists stand within one another, and the nodes spell the script.
 pub record IsSpelling (text : List ℕ) (symbols : List Symbol) (script : ScriptTree) : Type 0 where
-  pub in_order : fault_of text ≡ None
+  pub short : length text ≤ 65536
   pub nodes : Trees
   pub written : AreWritten text nodes (tokens_of text)
+  pub few_nodes : trees_nodes nodes ≤ 4096
+  pub shallow : trees_depth nodes ≤ 64
   pub spelled : SpellsScript text symbols script nodes
