@@ -2,4 +2,5 @@ pub mod Folds
 mod Merging
 mod Rests
 mod Pieces
-mod Meant
+pub mod Meant
+pub mod Parted

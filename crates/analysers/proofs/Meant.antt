@@ -21,7 +21,7 @@ use Rattle.analysers.specs.TreeLaws.{no_part-fits, part_of-fits, join_parts-fits
 use Rattle.analysers.specs.Words.{word_at, lesser, greater}
 use Rattle.analysers.proofs.Folds.{Joins, folded-cons}
 
-laws_of : (kind : TreeKind) → Joins (Fits kind) (no_part kind) join_parts
+pub laws_of : (kind : TreeKind) → Joins (Fits kind) (no_part kind) join_parts
 laws_of kind = record {
   none = no_part-fits kind;
   both = join_parts-fits kind;

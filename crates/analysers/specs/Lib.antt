@@ -6,6 +6,7 @@ pub mod Locals
 pub mod Streams
 pub mod Parts
 pub mod Analyses
+pub mod Pieces
 pub mod BinLaws
 pub mod TreeLaws
 pub mod Meanings

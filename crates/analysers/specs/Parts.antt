@@ -1,5 +1,5 @@
 -- The analyses whose parts can be joined.
-use Rattle.std.specs.Prelude.{◌≡◌, ℕ, ◌%◌, ◌^◌, ◌<◌, List, [], ◌∷◌, fold, Option, Some, None, unwrap_or}
+use Rattle.std.specs.Prelude.{◌≡◌, ℕ, ◌%◌, ◌^◌, ◌<◌, ⊤, List, [], ◌∷◌, fold, Option, Some, None, unwrap_or}
 use Rattle.std.specs.Option.{option_or}
 use Rattle.tracer_lang.specs.declared.record.Record.{Record}
 use Rattle.analysers.specs.declared.part.Bin.{Bin}
@@ -55,6 +55,16 @@ Fits (Greatest place) p = (word : Option ℕ) × (p ≡ part.Greatest word)
 Fits (Hist place) p = (bins : List Bin) × (p ≡ part.Hist bins) × IsRising bins × AreCounts bins
 Fits First p = (r : Option Record) × (p ≡ part.First r)
 Fits Last p = (r : Option Record) × (p ≡ part.Last r)
+
+-- what a join needs: the words of a histogram rise
+abbrev pub IsSound : Part → Type 0
+IsSound (part.Count n) = ⊤
+IsSound (part.Sum n) = ⊤
+IsSound (part.Least word) = ⊤
+IsSound (part.Greatest word) = ⊤
+IsSound (part.Hist bins) = IsRising bins
+IsSound (part.First r) = ⊤
+IsSound (part.Last r) = ⊤
 
 -- the left fold of the values of each, from that of none
 abbrev pub folded : {X V : Type 0} → V → (X → V) → (V → V → V) → List X → V

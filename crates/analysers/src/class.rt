@@ -2,6 +2,7 @@
 
 ghost use Rattle.std.specs.Prelude.{◌≡◌};
 ghost use Rattle.analysers.specs.Analyses.{class_of};
+ghost use Rattle.analysers.specs.Pieces.{tree_of};
 
 use crate::kind::KindOf;
 use crate::local::LocalKind;
@@ -42,5 +43,15 @@ pub fn class_of(what: KindOf) -> Class
         KindOf::Hist(place) => Class::Tree(TreeKind::Hist(place)),
         KindOf::First => Class::Tree(TreeKind::First),
         KindOf::Last => Class::Tree(TreeKind::Last),
+    }
+}
+
+/// The tree of a kind that is worked out in parts.
+pub fn tree_of(what: KindOf) -> Option<TreeKind>
+    ensures { result ≡ tree_of what }
+{
+    match class_of(what) {
+        Class::Local(_) | Class::Changes(_) | Class::Rising(_) | Class::Open(_) => None,
+        Class::Tree(tree) => Some(tree),
     }
 }

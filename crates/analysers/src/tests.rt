@@ -1,13 +1,14 @@
 //! What each kind gives of one table of records, worked by hand, cut at every place.
 
-ghost use Rattle.std.specs.Prelude.{All, IfOk};
+ghost use Rattle.std.specs.Prelude.{◌≡◌, map, All, IfOk};
 ghost use Rattle.analysers.specs.declared.trees.TreeKind.TheVariants.{Hist};
 ghost use Rattle.analysers.specs.Parts.{Fits};
+ghost use Rattle.analysers.specs.Pieces.{parts_of};
 
 use crate::{
-    Bin, Changes, Class, KindOf, Open, Part, Rising, Row, Stream, Tree, TreeKind, analyse,
-    class_of, feed_all, fold_records, folds_join, join_values, push_part, push_passing, read_kind,
-    streams_go_on, trees_mean,
+    Bin, Changes, Kind, KindOf, Merged, Open, Part, Rising, Row, Tree, TreeKind, analyse,
+    folds_join, join_values, merge_pieces, parts_of, push_part, read_kind, streams_go_on,
+    trees_mean,
 };
 use sl_base::{Memory, Seq};
 use std::alloc::Global;
@@ -102,44 +103,6 @@ first: 10
 last: 17
 ";
 
-/// What a stream gives where the list is fed in two pieces.
-fn push_fed<S: Stream>(
-    alloc: Global,
-    stream: &S,
-    front: &[Record],
-    back: &[Record],
-    out: &mut Vec<Row>,
-) -> Result<(), Memory> {
-    let mut s = stream.start(alloc)?;
-    feed_all(alloc, stream, &mut s, front, out)?;
-    feed_all(alloc, stream, &mut s, back, out)?;
-    stream.finish(s, out)
-}
-
-/// What a kind gives where the list is cut in two.
-fn push_cut(
-    alloc: Global,
-    class: &Class,
-    front: &[Record],
-    back: &[Record],
-    out: &mut Vec<Row>,
-) -> Result<(), Memory> {
-    match class {
-        Class::Local(local) => {
-            push_passing(alloc, local, front, out)?;
-            push_passing(alloc, local, back, out)
-        }
-        Class::Changes(changes) => push_fed(alloc, changes, front, back, out),
-        Class::Rising(rising) => push_fed(alloc, rising, front, back, out),
-        Class::Open(open) => push_fed(alloc, open, front, back, out),
-        Class::Tree(tree) => {
-            let left = fold_records(alloc, tree, front)?;
-            let right = fold_records(alloc, tree, back)?;
-            push_part(tree.join(alloc, left, right)?, out)
-        }
-    }
-}
-
 /// The kind that a word names.
 fn what_of(alloc: Global, word: &str) -> Result<Option<KindOf>, Memory> {
     Ok(read_kind(alloc, word)?.map(|kind| kind.what))
@@ -168,21 +131,71 @@ fn each_kind_gives_its_rows(rt: HostRuntime) -> Result<(), Fail> {
     Ok(())
 }
 
+/// The kinds of the table's lines.
+fn kinds_of_table(alloc: Global) -> Result<Vec<Kind>, Memory> {
+    let mut kinds = Vec::new(alloc);
+    for line in GIVEN.lines() {
+        let (word, _) = line.split_once(": ").unwrap_or((line, ""));
+        if let Some(kind) = read_kind(alloc, word)? {
+            kinds.push(kind)?;
+        }
+    }
+    Ok(kinds)
+}
+
+/// The parts that each piece makes.
+fn parts_of_each(
+    alloc: Global,
+    kinds: &[Kind],
+    pieces: &[Seq<Record>],
+) -> Result<Vec<Seq<Part>>, Memory>
+    ensures { IfOk result (λ parts. parts.items ≡ map (parts_of kinds.now) pieces.now) }
+{
+    let mut parts = Vec::new(alloc);
+    for piece in pieces {
+        parts.push(parts_of(alloc, kinds, piece.as_slice())?)?;
+    }
+    Ok(parts)
+}
+
+/// What each kind gives of the table, cut at these two counts.
+fn merged_of_cut(alloc: Global, kinds: &[Kind], a: u64, b: u64) -> Result<Merged, Memory> {
+    let mut front = Vec::new(alloc);
+    let mut middle = Vec::new(alloc);
+    let mut back = Vec::new(alloc);
+    for r in table(alloc)? {
+        if r.count < a {
+            front.push(r)?;
+        } else if r.count < b {
+            middle.push(r)?;
+        } else {
+            back.push(r)?;
+        }
+    }
+    let pieces = vec![in alloc;
+        Seq::from_vec(front),
+        Seq::from_vec(middle),
+        Seq::from_vec(back),
+    ]?;
+    let parts = parts_of_each(alloc, kinds, &pieces)?;
+    merge_pieces(alloc, kinds, pieces, parts)
+}
+
 #[test]
 fn no_cut_changes_the_rows(rt: HostRuntime) -> Result<(), Fail> {
     let alloc = rt.alloc();
-    let records = table(alloc)?;
-    for (row, line) in GIVEN.lines().enumerate() {
-        let (word, whole) = line.split_once(": ").unwrap_or((line, ""));
-        let what = what_of(alloc, word)?.ok_or("no kind")?;
-        for at in 0..records.len() + 1 {
-            let (front, back) = records.split_at(at);
-            let mut rows = Vec::new(alloc);
-            push_cut(alloc, &class_of(what), front, back, &mut rows)?;
-            assert!(rt;
-                spelled(alloc, &rows)?.as_str() == whole,
-                "row {row} cut at {at}"
-            );
+    let kinds = kinds_of_table(alloc)?;
+    for a in 10..19 {
+        for b in a..19 {
+            let merged = merged_of_cut(alloc, &kinds, a, b)?;
+            for (row, line) in GIVEN.lines().enumerate() {
+                let (_, whole) = line.split_once(": ").unwrap_or((line, ""));
+                let rows = merged.rows.as_slice().get(row).ok_or("no rows")?;
+                assert!(rt;
+                    spelled(alloc, rows.as_slice())?.as_str() == whole,
+                    "row {row} cut at {a} and {b}"
+                );
+            }
         }
     }
     Ok(())

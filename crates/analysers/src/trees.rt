@@ -1,7 +1,7 @@
 //! The kinds whose parts can be joined.
 
 ghost use Rattle.std.specs.Prelude.{◌≡◌, IfOk};
-ghost use Rattle.analysers.specs.Parts.{bin_of};
+ghost use Rattle.analysers.specs.Parts.{bin_of, IsSound, join_parts};
 
 use crate::histogram::merge_bins;
 use crate::part::{Bin, Part};
@@ -37,6 +37,24 @@ fn bin_of(alloc: Global, word: Option<u32>) -> Result<Seq<Bin>, Memory>
     match word {
         None => Ok(Seq::new(alloc)),
         Some(value) => Ok(Seq::from_vec(vec![in alloc; Bin { value, count: 1 }]?)),
+    }
+}
+
+/// The part of both. Parts of two kinds are never joined.
+pub fn join_parts(alloc: Global, left: Part, right: Part) -> Result<Part, Memory>
+    requires left { IsSound left }
+    requires right { IsSound right }
+    ensures { IfOk result (λ part. part ≡ join_parts left right) }
+{
+    match (left, right) {
+        (Part::Count(m), Part::Count(n)) => Ok(Part::Count(m.wrapping_add(n))),
+        (Part::Sum(m), Part::Sum(n)) => Ok(Part::Sum(m.wrapping_add(n))),
+        (Part::Least(a), Part::Least(b)) => Ok(Part::Least(lesser(a, b))),
+        (Part::Greatest(a), Part::Greatest(b)) => Ok(Part::Greatest(greater(a, b))),
+        (Part::Hist(a), Part::Hist(b)) => Ok(Part::Hist(merge_bins(alloc, a, b)?)),
+        (Part::First(a), Part::First(b)) => Ok(Part::First(a.or(b))),
+        (Part::Last(a), Part::Last(b)) => Ok(Part::Last(b.or(a))),
+        (left, _) => Ok(left),
     }
 }
 
@@ -79,16 +97,7 @@ impl Tree for TreeKind {
     }
 
     fn join(&self, alloc: Global, left: Part, right: Part) -> Result<Part, Memory> {
-        match (left, right) {
-            (Part::Count(m), Part::Count(n)) => Ok(Part::Count(m.wrapping_add(n))),
-            (Part::Sum(m), Part::Sum(n)) => Ok(Part::Sum(m.wrapping_add(n))),
-            (Part::Least(a), Part::Least(b)) => Ok(Part::Least(lesser(a, b))),
-            (Part::Greatest(a), Part::Greatest(b)) => Ok(Part::Greatest(greater(a, b))),
-            (Part::Hist(a), Part::Hist(b)) => Ok(Part::Hist(merge_bins(alloc, a, b)?)),
-            (Part::First(a), Part::First(b)) => Ok(Part::First(a.or(b))),
-            (Part::Last(a), Part::Last(b)) => Ok(Part::Last(b.or(a))),
-            (left, _) => Ok(left),
-        }
+        join_parts(alloc, left, right)
     }
 
     ghost unit_fits = { no_part-fits };
