@@ -18,14 +18,14 @@ abbrev record_of_two : Record
 record_of_two = record { count = 2; point = 0; pc = 0x10008; words = 5 ∷ []; outcome = Done }
 
 abbrev both_run : List PostValue
-both_run = Ran [] ∷ Ran (record_of_two ∷ []) ∷ []
+both_run = Ran [] [] ∷ Ran (record_of_two ∷ []) [] ∷ []
 
 -- the checkpoint at the end of the first epoch differs
 abbrev first_break : Break
 first_break = record { count = 2; kind = CheckpointDiffers 1 10 0 6 5 }
 
 abbrev first_breaks : List PostValue
-first_breaks = Broke first_break ∷ Ran [] ∷ []
+first_breaks = Broke first_break ∷ Ran [] [] ∷ []
 
 -- the trays of two workers after events
 abbrev two_trays : List PostValue → List CoreEvent → List (List Post)
@@ -36,7 +36,7 @@ in_turn : run_events both_run (start 2) (Claim 0 ∷ Claim 1 ∷ Finish 1 ∷ Fi
     ≡ record {
       next = 2;
       low = None;
-      seats = record new_seat { tray = post_of 0 (Ran []) ∷ [] } ∷ record new_seat { tray = post_of 1 (Ran (record_of_two ∷ [])) ∷ [] } ∷ [];
+      seats = record new_seat { tray = post_of 0 (Ran [] []) ∷ [] } ∷ record new_seat { tray = post_of 1 (Ran (record_of_two ∷ []) []) ∷ [] } ∷ [];
     }
 unfolding run_events after claim finish posted
 in_turn = refl
@@ -52,7 +52,7 @@ skips = refl
 
 -- no smaller epoch is known to have broken: the event changes nothing, and the epoch is held until it is finished
 skips_too_early : two_trays first_breaks (Claim 0 ∷ Claim 1 ∷ Skip 1 ∷ Finish 0 ∷ Skip 0 ∷ Finish 1 ∷ [])
-    ≡ (post_of 0 (Broke first_break) ∷ []) ∷ (post_of 1 (Ran []) ∷ []) ∷ []
+    ≡ (post_of 0 (Broke first_break) ∷ []) ∷ (post_of 1 (Ran [] []) ∷ []) ∷ []
 unfolding run_events after claim finish skip posted
 skips_too_early = refl
 
@@ -74,27 +74,27 @@ unfolding run_events after claim finish posted
 keeps_least = refl
 
 -- what is not whole: an epoch without a post, and one with two
-lacks_one : Posted both_run (post_of 0 (Ran []) ∷ []) → ⊥
+lacks_one : Posted both_run (post_of 0 (Ran [] []) ∷ []) → ⊥
 lacks_one posted =
     let none : 0 ≡ 1 = posted.once 1 (omega arith) in
     absurd (omega (arith, none))
 
-has_two : Posted (Ran [] ∷ []) (post_of 0 (Ran []) ∷ post_of 0 (Ran []) ∷ []) → ⊥
+has_two : Posted (Ran [] [] ∷ []) (post_of 0 (Ran [] []) ∷ post_of 0 (Ran [] []) ∷ []) → ⊥
 has_two posted =
     let two : 2 ≡ 1 = posted.once 0 (omega arith) in
     absurd (omega (arith, two))
 
 -- and a skip below an epoch that ran
 abbrev ran_and_skipped : List Post
-ran_and_skipped = post_of 0 (Ran []) ∷ post_of 1 (Skipped 0) ∷ []
+ran_and_skipped = post_of 0 (Ran [] []) ∷ post_of 1 (Skipped 0) ∷ []
 
 none_broke : (below : ℕ) (first : Break) → Contains ran_and_skipped (post_of below (Broke first)) → ⊥
-none_broke below first (zero, within, is) = let other : Ran [] ≡ Broke first = ap (λ (post : Post). post.value) is in cc
+none_broke below first (zero, within, is) = let other : Ran [] [] ≡ Broke first = ap (λ (post : Post). post.value) is in cc
 none_broke below first (suc zero, within, is) = let other : Skipped 0 ≡ Broke first = ap (λ (post : Post). post.value) is in cc
 none_broke below first (suc (suc k), within, is) = absurd (omega arith)
 
 skips_nothing : Posted both_run ran_and_skipped → ⊥
-skips_nothing posted = elim (posted.right 1 (post_of 0 (Ran [])) (omega arith)) [
-  | inl own ↦ let other : Some (Ran (record_of_two ∷ [])) ≡ Some (Skipped 0) = own in cc
+skips_nothing posted = elim (posted.right 1 (post_of 0 (Ran [] [])) (omega arith)) [
+  | inl own ↦ let other : Some (Ran (record_of_two ∷ []) []) ≡ Some (Skipped 0) = own in cc
   | inr skip ↦ none_broke skip.0 skip.3.0 skip.3.1
 ]

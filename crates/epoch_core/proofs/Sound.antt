@@ -239,7 +239,7 @@ still_known posts post (Some b) known = inl known
 
 low_known : (posts : List Post) (low : Option ℕ) (k : ℕ) (value : PostValue) → IfSome low (BrokeAt posts)
     → IfSome (low_after low k value) (λ b. BrokeAt posts b ⊎ IsBreakOf (post_of k value) b)
-low_known posts low k (Ran records) known = still_known posts (post_of k (Ran records)) low known
+low_known posts low k (Ran records parts) known = still_known posts (post_of k (Ran records parts)) low known
 low_known posts low k (Skipped below) known = still_known posts (post_of k (Skipped below)) low known
 low_known posts None k (Broke first) known = inr (first, refl)
 low_known posts (Some low) k (Broke first) known =

@@ -14,8 +14,8 @@ record_of word = record { count = 2; point = 0; pc = 0x10008; words = word ∷ [
 
 -- a listed epoch breaks, or leaves no record or one that emits a word
 abbrev pub value_of : Result (Option ℕ) Break → PostValue
-value_of (Ok None) = Ran []
-value_of (Ok (Some word)) = Ran (record_of word ∷ [])
+value_of (Ok None) = Ran [] []
+value_of (Ok (Some word)) = Ran (record_of word ∷ []) []
 value_of (Err first) = Broke first
 
 own : (listed : Result (Option ℕ) Break) → IsOwn (value_of listed)

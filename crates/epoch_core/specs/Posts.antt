@@ -1,15 +1,23 @@
 -- Posts of epochs, and when a list of posts is whole.
 use Rattle.std.specs.Prelude.{◌≡◌, ℕ, ◌<◌, ◌==◌, ◌⊎◌, ⊤, List, length, Some, All, Contains, count_by, slice_get}
 use Rattle.call_log.specs.declared.breaks.Break.{Break}
+use Rattle.analysers.specs.declared.kind.Kind.{Kind}
+use Rattle.analysers.specs.Pieces.{parts_of}
 use Rattle.epoch_core.specs.declared.post.Post.{Post}
 use Rattle.epoch_core.specs.declared.post.PostValue.{PostValue}
 use Rattle.epoch_core.specs.declared.post.PostValue.TheVariants.{Ran, Broke, Skipped}
 
 -- a value that comes of the epoch itself: it ran, or it broke
 abbrev pub IsOwn : PostValue → Type 0
-IsOwn (Ran records) = ⊤
+IsOwn (Ran records parts) = ⊤
 IsOwn (Broke first) = ⊤
 IsOwn (Skipped below) = ⊥
+
+-- the parts of an epoch that ran are those that its records make for these kinds
+abbrev pub HasParts : List Kind → PostValue → Type 0
+HasParts kinds (Ran records parts) = parts ≡ parts_of kinds records
+HasParts kinds (Broke first) = ⊤
+HasParts kinds (Skipped below) = ⊤
 
 abbrev pub post_of : ℕ → PostValue → Post
 post_of k value = record { epoch = k; value = value }

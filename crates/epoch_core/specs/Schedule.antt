@@ -70,7 +70,7 @@ lowered (Some low) k = Some (min low k)
 
 -- the least known break, once epoch k came to this value
 abbrev pub low_after : Option ℕ → ℕ → PostValue → Option ℕ
-low_after low k (Ran records) = low
+low_after low k (Ran records parts) = low
 low_after low k (Broke first) = lowered low k
 low_after low k (Skipped below) = low
 

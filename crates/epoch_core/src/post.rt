@@ -1,3 +1,4 @@
+use analysers::Part;
 use call_log::Break;
 use sl_base::Seq;
 use tracer_lang::Record;
@@ -18,6 +19,8 @@ pub enum PostValue {
     Ran {
         /// What tracers left on it, in order.
         records: Seq<Record>,
+        /// What each analysis that can be joined makes of them, in the order of the analyses.
+        parts: Seq<Part>,
     },
     /// The replay first differs from the recording in this epoch.
     Broke(Break),

@@ -36,9 +36,11 @@ fn value_of(alloc: Global, listed: Result<Option<u32>, Break>) -> Result<PostVal
     match listed {
         Ok(None) => Ok(PostValue::Ran {
             records: Seq::new(alloc),
+            parts: Seq::new(alloc),
         }),
         Ok(Some(word)) => Ok(PostValue::Ran {
             records: Seq::from_vec(vec![in alloc; record_of(alloc, word)?]?),
+            parts: Seq::new(alloc),
         }),
         Err(first) => Ok(PostValue::Broke(first)),
     }
@@ -81,7 +83,7 @@ enum Told {
 
 fn told_by(post: &Post) -> (u32, Told) {
     let told = match &post.value {
-        PostValue::Ran { records } => match records.as_slice().first() {
+        PostValue::Ran { records, .. } => match records.as_slice().first() {
             Some(record) => Told::Word(record.words.as_slice().first().copied().unwrap_or(0)),
             None => Told::Nothing,
         },

@@ -63,7 +63,7 @@ lesser_is posts (Some broken) other least =
     ))
 
 least_at : (posts : List Post) (least : Option BrokenEpoch) (k : ℕ) (value : PostValue) → IsLeast posts least → IsLeast (posts ++ post_of k value ∷ []) (lesser_at least k value)
-least_at posts least k (Ran records) is = kept posts least (post_of k (Ran records)) (λ first same. absurd (cc)) is
+least_at posts least k (Ran records parts) is = kept posts least (post_of k (Ran records parts)) (λ first same. absurd (cc)) is
 least_at posts least k (Broke first) is = lesser_is posts least (record { epoch = k; first = first }) is
 least_at posts least k (Skipped below) is = kept posts least (post_of k (Skipped below)) (λ first same. absurd (cc)) is
 

@@ -4,27 +4,32 @@ use Rattle.std.specs.List.{All}
 use Rattle.std.proofs.lemmas.List.Elements.{All-nil, All-cons}
 use Rattle.call_log.specs.declared.breaks.Break.{Break}
 use Rattle.tracer_lang.specs.declared.record.Record.{Record}
+use Rattle.analysers.specs.declared.kind.Kind.{Kind}
+use Rattle.analysers.specs.Pieces.{parts_of, merged_of}
 use Rattle.epoch_core.specs.declared.post.Post.{Post}
 use Rattle.epoch_core.specs.declared.post.PostValue.{PostValue}
 use Rattle.epoch_core.specs.declared.post.PostValue.TheVariants.{Ran, Broke, Skipped}
 use Rattle.epoch_core.specs.Listed.{record_of}
-use Rattle.epoch_core.specs.Posts.{Posted, IsRight, posts_for, post_of}
+use Rattle.epoch_core.specs.Posts.{Posted, IsRight, posts_for, post_of, HasParts}
 use Rattle.ordered_merge.specs.Merged.{merged}
 
 -- records of one epoch before those of the next
-in_order : merged (Ran (record_of 5 ∷ record_of 6 ∷ []) ∷ Ran [] ∷ Ran (record_of 7 ∷ []) ∷ []) ≡ Ok (record_of 5 ∷ record_of 6 ∷ record_of 7 ∷ [])
+in_order : (kinds : List Kind) → merged kinds
+    (Ran (record_of 5 ∷ record_of 6 ∷ []) [] ∷ Ran [] [] ∷ Ran (record_of 7 ∷ []) [] ∷ [])
+    ≡ Ok (merged_of kinds (record_of 5 ∷ record_of 6 ∷ record_of 7 ∷ []))
 unfolding merged
-in_order = refl
+in_order kinds = refl
 
 -- the first of two breaks, and no record of the epoch before it
-first_of_two : (a b : Break) → merged (Ran (record_of 5 ∷ []) ∷ Broke a ∷ Broke b ∷ []) ≡ Err a
+first_of_two : (kinds : List Kind) (a b : Break)
+    → merged kinds (Ran (record_of 5 ∷ []) [] ∷ Broke a ∷ Broke b ∷ []) ≡ Err a
 unfolding merged
-first_of_two a b = refl
+first_of_two kinds a b = refl
 
 -- no epoch
-nothing : merged [] ≡ Ok []
+nothing : (kinds : List Kind) → merged kinds [] ≡ Ok (merged_of kinds [])
 unfolding merged
-nothing = refl
+nothing kinds = refl
 
 all_of_three : (P : Post → Type 0) (a b c : Post) → P a → P b → P c → All P (a ∷ b ∷ c ∷ [])
 all_of_three P a b c x y z = All-cons P a (b ∷ c ∷ []) x (All-cons P b (c ∷ []) y (All-cons P c [] z (All-nil P)))
@@ -57,51 +62,79 @@ posted_as values a b c x y z e f g posted =
 
 -- ---- three epochs that ran
 
-abbrev pub all_ran : List Record → List Record → List PostValue
-all_ran first last = Ran first ∷ Ran [] ∷ Ran last ∷ []
+-- what an epoch with these records comes to
+abbrev pub ran : List Kind → List Record → PostValue
+ran kinds records = Ran records (parts_of kinds records)
 
-pub rising : (r s : List Record) → Posted (all_ran r s) (post_of 0 (Ran r) ∷ post_of 1 (Ran []) ∷ post_of 2 (Ran s) ∷ [])
-rising r s =
-    posted_three (all_ran r s) (post_of 0 (Ran r)) (post_of 1 (Ran [])) (post_of 2 (Ran s)) refl refl refl refl (omega arith) (omega arith) (omega arith)
-    (inl refl) (inl refl) (inl refl)
+abbrev pub all_ran : List Kind → List Record → List Record → List Record → List PostValue
+all_ran kinds q r s = ran kinds q ∷ ran kinds r ∷ ran kinds s ∷ []
 
-pub falling : (r s : List Record) → Posted (all_ran r s) (post_of 2 (Ran s) ∷ post_of 1 (Ran []) ∷ post_of 0 (Ran r) ∷ [])
-falling r s =
-    posted_three (all_ran r s) (post_of 2 (Ran s)) (post_of 1 (Ran [])) (post_of 0 (Ran r)) refl refl refl refl (omega arith) (omega arith) (omega arith)
-    (inl refl) (inl refl) (inl refl)
+pub all_have : (kinds : List Kind) (q r s : List Record) → All (HasParts kinds) (all_ran kinds q r s)
+all_have kinds q r s =
+    All-cons (HasParts kinds) (ran kinds q) (ran kinds r ∷ ran kinds s ∷ []) refl
+    (All-cons (HasParts kinds) (ran kinds r) (ran kinds s ∷ []) refl
+    (All-cons (HasParts kinds) (ran kinds s) [] refl (All-nil (HasParts kinds))))
 
-pub mixed : (r s : List Record) → Posted (all_ran r s) (post_of 1 (Ran []) ∷ post_of 2 (Ran s) ∷ post_of 0 (Ran r) ∷ [])
-mixed r s =
-    posted_three (all_ran r s) (post_of 1 (Ran [])) (post_of 2 (Ran s)) (post_of 0 (Ran r)) refl refl refl refl (omega arith) (omega arith) (omega arith)
-    (inl refl) (inl refl) (inl refl)
+pub rising : (x y z : PostValue)
+    → Posted (x ∷ y ∷ z ∷ []) (post_of 0 x ∷ post_of 1 y ∷ post_of 2 z ∷ [])
+rising x y z =
+    posted_three (x ∷ y ∷ z ∷ []) (post_of 0 x) (post_of 1 y) (post_of 2 z) refl refl refl refl
+    (omega arith) (omega arith) (omega arith) (inl refl) (inl refl) (inl refl)
+
+pub falling : (x y z : PostValue)
+    → Posted (x ∷ y ∷ z ∷ []) (post_of 2 z ∷ post_of 1 y ∷ post_of 0 x ∷ [])
+falling x y z =
+    posted_three (x ∷ y ∷ z ∷ []) (post_of 2 z) (post_of 1 y) (post_of 0 x) refl refl refl refl
+    (omega arith) (omega arith) (omega arith) (inl refl) (inl refl) (inl refl)
+
+pub mixed : (x y z : PostValue)
+    → Posted (x ∷ y ∷ z ∷ []) (post_of 1 y ∷ post_of 2 z ∷ post_of 0 x ∷ [])
+mixed x y z =
+    posted_three (x ∷ y ∷ z ∷ []) (post_of 1 y) (post_of 2 z) (post_of 0 x) refl refl refl refl
+    (omega arith) (omega arith) (omega arith) (inl refl) (inl refl) (inl refl)
 
 -- ---- epochs that broke, and others that were skipped
 
-abbrev pub second_broke : List Record → Break → List PostValue
-second_broke r a = Ran r ∷ Broke a ∷ Ran [] ∷ []
+abbrev pub second_broke : List Kind → List Record → Break → List PostValue
+second_broke kinds r a = ran kinds r ∷ Broke a ∷ ran kinds [] ∷ []
 
-pub third_skipped : (r : List Record) (a : Break) → Posted (second_broke r a) (post_of 2 (Skipped 1) ∷ post_of 0 (Ran r) ∷ post_of 1 (Broke a) ∷ [])
-third_skipped r a =
-    posted_three (second_broke r a) (post_of 2 (Skipped 1)) (post_of 0 (Ran r)) (post_of 1 (Broke a)) refl refl refl refl (omega arith) (omega arith) (omega arith)
+abbrev pub first_broke : List Kind → Break → List PostValue
+first_broke kinds a = Broke a ∷ ran kinds [] ∷ ran kinds [] ∷ []
+
+abbrev pub two_broke : List Kind → Break → Break → List PostValue
+two_broke kinds a b = ran kinds [] ∷ Broke a ∷ Broke b ∷ []
+
+pub second_has : (kinds : List Kind) (r : List Record) (a : Break)
+    → All (HasParts kinds) (second_broke kinds r a)
+second_has kinds r a =
+    All-cons (HasParts kinds) (ran kinds r) (Broke a ∷ ran kinds [] ∷ []) refl
+    (All-cons (HasParts kinds) (Broke a) (ran kinds [] ∷ []) tt
+    (All-cons (HasParts kinds) (ran kinds []) [] refl (All-nil (HasParts kinds))))
+
+pub first_has : (kinds : List Kind) (a : Break) → All (HasParts kinds) (first_broke kinds a)
+first_has kinds a =
+    All-cons (HasParts kinds) (Broke a) (ran kinds [] ∷ ran kinds [] ∷ []) tt
+    (All-cons (HasParts kinds) (ran kinds []) (ran kinds [] ∷ []) refl
+    (All-cons (HasParts kinds) (ran kinds []) [] refl (All-nil (HasParts kinds))))
+
+pub two_have : (kinds : List Kind) (a b : Break) → All (HasParts kinds) (two_broke kinds a b)
+two_have kinds a b =
+    All-cons (HasParts kinds) (ran kinds []) (Broke a ∷ Broke b ∷ []) refl
+    (All-cons (HasParts kinds) (Broke a) (Broke b ∷ []) tt
+    (All-cons (HasParts kinds) (Broke b) [] tt (All-nil (HasParts kinds))))
+
+pub third_skipped : (kinds : List Kind) (r : List Record) (a : Break)
+    → Posted (second_broke kinds r a)
+    (post_of 2 (Skipped 1) ∷ post_of 0 (ran kinds r) ∷ post_of 1 (Broke a) ∷ [])
+third_skipped kinds r a =
+    posted_three (second_broke kinds r a) (post_of 2 (Skipped 1)) (post_of 0 (ran kinds r))
+    (post_of 1 (Broke a)) refl refl refl refl (omega arith) (omega arith) (omega arith)
     (inr (1, refl, omega arith, (a, (2, omega arith, refl)))) (inl refl) (inl refl)
 
-abbrev pub first_broke : Break → List PostValue
-first_broke a = Broke a ∷ Ran [] ∷ Ran [] ∷ []
-
-pub both_skipped : (a : Break) → Posted (first_broke a) (post_of 0 (Broke a) ∷ post_of 2 (Skipped 0) ∷ post_of 1 (Skipped 0) ∷ [])
-both_skipped a =
-    posted_three (first_broke a) (post_of 0 (Broke a)) (post_of 2 (Skipped 0)) (post_of 1 (Skipped 0)) refl refl refl refl (omega arith) (omega arith) (omega arith)
-    (inl refl) (inr (0, refl, omega arith, (a, (0, omega arith, refl)))) (inr (0, refl, omega arith, (a, (0, omega arith, refl))))
-
-abbrev pub two_broke : Break → Break → List PostValue
-two_broke a b = Ran [] ∷ Broke a ∷ Broke b ∷ []
-
-pub breaks_falling : (a b : Break) → Posted (two_broke a b) (post_of 2 (Broke b) ∷ post_of 1 (Broke a) ∷ post_of 0 (Ran []) ∷ [])
-breaks_falling a b =
-    posted_three (two_broke a b) (post_of 2 (Broke b)) (post_of 1 (Broke a)) (post_of 0 (Ran [])) refl refl refl refl (omega arith) (omega arith) (omega arith)
-    (inl refl) (inl refl) (inl refl)
-
-pub breaks_rising : (a b : Break) → Posted (two_broke a b) (post_of 0 (Ran []) ∷ post_of 1 (Broke a) ∷ post_of 2 (Broke b) ∷ [])
-breaks_rising a b =
-    posted_three (two_broke a b) (post_of 0 (Ran [])) (post_of 1 (Broke a)) (post_of 2 (Broke b)) refl refl refl refl (omega arith) (omega arith) (omega arith)
-    (inl refl) (inl refl) (inl refl)
+pub both_skipped : (kinds : List Kind) (a : Break) → Posted (first_broke kinds a)
+    (post_of 0 (Broke a) ∷ post_of 2 (Skipped 0) ∷ post_of 1 (Skipped 0) ∷ [])
+both_skipped kinds a =
+    posted_three (first_broke kinds a) (post_of 0 (Broke a)) (post_of 2 (Skipped 0))
+    (post_of 1 (Skipped 0)) refl refl refl refl (omega arith) (omega arith) (omega arith)
+    (inl refl) (inr (0, refl, omega arith, (a, (0, omega arith, refl))))
+    (inr (0, refl, omega arith, (a, (0, omega arith, refl))))

@@ -6,7 +6,9 @@ use Rattle.std.proofs.lemmas.List.Sums.{sum_by-cons}
 use Rattle.std.proofs.lemmas.List.Elements.{All-contains, Contains-append_right}
 use Rattle.std.proofs.lemmas.Option.{same_Some, slice_get_within}
 use Rattle.call_log.specs.declared.breaks.Break.{Break}
-use Rattle.tracer_lang.specs.declared.record.Record.{Record}
+use Rattle.analysers.specs.declared.kind.Kind.{Kind}
+use Rattle.analysers.specs.declared.merged.Merged.{Merged}
+use Rattle.analysers.specs.Pieces.{merged_of}
 use Rattle.epoch_core.specs.declared.post.Post.{Post}
 use Rattle.epoch_core.specs.declared.post.PostValue.{PostValue}
 use Rattle.epoch_core.specs.declared.post.PostValue.TheVariants.{Ran, Broke, Skipped}
@@ -19,30 +21,30 @@ use Rattle.ordered_merge.specs.Merged.{merged, unless_broken, break_in, records_
 
 no_breaks : (values : List PostValue) → NoneBroke values → filter_map break_in values ≡ []
 no_breaks [] none = refl
-no_breaks (Ran records ∷ values) none = no_breaks values (λ k first. none (suc k) first)
+no_breaks (Ran records parts ∷ values) none = no_breaks values (λ k first. none (suc k) first)
 no_breaks (Broke first ∷ values) none = absurd (none zero first refl)
 no_breaks (Skipped below ∷ values) none = no_breaks values (λ k first. none (suc k) first)
 
-pub merged_ran : (values : List PostValue) → NoneBroke values → merged values ≡ Ok (flat_map records_in values)
+pub merged_ran : (kinds : List Kind) (values : List PostValue) → NoneBroke values → merged kinds values ≡ Ok (merged_of kinds (flat_map records_in values))
 unfolding merged
-merged_ran values none = ap (λ breaks. unless_broken breaks (flat_map records_in values)) (no_breaks values none)
+merged_ran kinds values none = ap (λ breaks. unless_broken breaks (merged_of kinds (flat_map records_in values))) (no_breaks values none)
 
 later : (value : PostValue) (values : List PostValue) (k : ℕ) (first : Break) → BreaksFirstAt (value ∷ values) (suc k) first → BreaksFirstAt values k first
 later value values k first at = record { broke = at.broke; least = λ j earlier less. at.least (suc j) earlier (omega arith) }
 
-first_break : (values : List PostValue) (k : ℕ) (first : Break) (records : List Record) → BreaksFirstAt values k first
-    → unless_broken (filter_map break_in values) records ≡ Err first
-first_break [] k first records at = absurd (let broke = at.broke in cc)
-first_break (Ran left ∷ values) zero first records at = absurd (let broke = at.broke in cc)
-first_break (Ran left ∷ values) (suc k) first records at = first_break values k first records (later (Ran left) values k first at)
-first_break (Broke own ∷ values) zero first records at = let broke = at.broke in cc
-first_break (Broke own ∷ values) (suc k) first records at = absurd (at.least zero own (omega arith) refl)
-first_break (Skipped below ∷ values) zero first records at = absurd (let broke = at.broke in cc)
-first_break (Skipped below ∷ values) (suc k) first records at = first_break values k first records (later (Skipped below) values k first at)
+first_break : (values : List PostValue) (k : ℕ) (first : Break) (whole : Merged) → BreaksFirstAt values k first
+    → unless_broken (filter_map break_in values) whole ≡ Err first
+first_break [] k first whole at = absurd (let broke = at.broke in cc)
+first_break (Ran left parts ∷ values) zero first whole at = absurd (let broke = at.broke in cc)
+first_break (Ran left parts ∷ values) (suc k) first whole at = first_break values k first whole (later (Ran left parts) values k first at)
+first_break (Broke own ∷ values) zero first whole at = let broke = at.broke in cc
+first_break (Broke own ∷ values) (suc k) first whole at = absurd (at.least zero own (omega arith) refl)
+first_break (Skipped below ∷ values) zero first whole at = absurd (let broke = at.broke in cc)
+first_break (Skipped below ∷ values) (suc k) first whole at = first_break values k first whole (later (Skipped below) values k first at)
 
-pub merged_broke : (values : List PostValue) (k : ℕ) (first : Break) → BreaksFirstAt values k first → merged values ≡ Err first
+pub merged_broke : (kinds : List Kind) (values : List PostValue) (k : ℕ) (first : Break) → BreaksFirstAt values k first → merged kinds values ≡ Err first
 unfolding merged
-merged_broke values k first at = first_break values k first (flat_map records_in values) at
+merged_broke kinds values k first at = first_break values k first (merged_of kinds (flat_map records_in values)) at
 
 -- a value that is no break, before others
 none_with : (value : PostValue) (values : List PostValue) → ((b : Break) → value ≢ Broke b) → NoneBroke values → NoneBroke (value ∷ values)
@@ -58,30 +60,30 @@ sooner : (value : PostValue) (values : List PostValue) (first : Break) → ((b :
     → (k : ℕ) × BreaksFirstAt (value ∷ values) k first
 sooner value values first not (k, at) = (suc k, record { broke = at.broke; least = none_before value values k first not at })
 
-break_from : (values : List PostValue) (records : List Record) (first : Break) → unless_broken (filter_map break_in values) records ≡ Err first
+break_from : (values : List PostValue) (whole : Merged) (first : Break) → unless_broken (filter_map break_in values) whole ≡ Err first
     → (k : ℕ) × BreaksFirstAt values k first
-break_from [] records first is = absurd (cc)
-break_from (Ran left ∷ values) records first is = sooner (Ran left) values first (λ b same. absurd (cc)) (break_from values records first is)
-break_from (Broke own ∷ values) records first is = (zero, record { broke = cc; least = λ j earlier less here. absurd (omega arith) })
-break_from (Skipped below ∷ values) records first is = sooner (Skipped below) values first (λ b same. absurd (cc)) (break_from values records first is)
+break_from [] whole first is = absurd (cc)
+break_from (Ran left parts ∷ values) whole first is = sooner (Ran left parts) values first (λ b same. absurd (cc)) (break_from values whole first is)
+break_from (Broke own ∷ values) whole first is = (zero, record { broke = cc; least = λ j earlier less here. absurd (omega arith) })
+break_from (Skipped below ∷ values) whole first is = sooner (Skipped below) values first (λ b same. absurd (cc)) (break_from values whole first is)
 
-records_from : (values : List PostValue) (all records : List Record) → unless_broken (filter_map break_in values) all ≡ Ok records → NoneBroke values × (records ≡ all)
-records_from [] all records is = (λ k first here. absurd (cc), cc)
-records_from (Ran left ∷ values) all records is =
-    let rest = records_from values all records is in
-    (none_with (Ran left) values (λ b same. absurd (cc)) rest.0, rest.1)
-records_from (Broke own ∷ values) all records is = absurd (cc)
-records_from (Skipped below ∷ values) all records is =
-    let rest = records_from values all records is in
+whole_from : (values : List PostValue) (all whole : Merged) → unless_broken (filter_map break_in values) all ≡ Ok whole → NoneBroke values × (whole ≡ all)
+whole_from [] all whole is = (λ k first here. absurd (cc), cc)
+whole_from (Ran left parts ∷ values) all whole is =
+    let rest = whole_from values all whole is in
+    (none_with (Ran left parts) values (λ b same. absurd (cc)) rest.0, rest.1)
+whole_from (Broke own ∷ values) all whole is = absurd (cc)
+whole_from (Skipped below ∷ values) all whole is =
+    let rest = whole_from values all whole is in
     (none_with (Skipped below) values (λ b same. absurd (cc)) rest.0, rest.1)
 
-pub merged_broke_iff : (values : List PostValue) (first : Break) → (merged values ≡ Err first) ↔ ((k : ℕ) × BreaksFirstAt values k first)
+pub merged_broke_iff : (kinds : List Kind) (values : List PostValue) (first : Break) → (merged kinds values ≡ Err first) ↔ ((k : ℕ) × BreaksFirstAt values k first)
 unfolding merged
-merged_broke_iff values first = (break_from values (flat_map records_in values) first, λ at. merged_broke values at.0 first at.1)
+merged_broke_iff kinds values first = (break_from values (merged_of kinds (flat_map records_in values)) first, λ at. merged_broke kinds values at.0 first at.1)
 
-pub merged_ran_iff : (values : List PostValue) (records : List Record) → (merged values ≡ Ok records) ↔ (NoneBroke values × (records ≡ flat_map records_in values))
+pub merged_ran_iff : (kinds : List Kind) (values : List PostValue) (whole : Merged) → (merged kinds values ≡ Ok whole) ↔ (NoneBroke values × (whole ≡ merged_of kinds (flat_map records_in values)))
 unfolding merged
-merged_ran_iff values records = (records_from values (flat_map records_in values) records, λ h. merged_ran values h.0 ∙ ap Ok (sym h.1))
+merged_ran_iff kinds values whole = (whole_from values (merged_of kinds (flat_map records_in values)) whole, λ h. merged_ran kinds values h.0 ∙ ap Ok (sym h.1))
 
 -- ---- each epoch has a post
 

@@ -20,7 +20,7 @@ lesser_of (Some broken) other = if nat_le broken.epoch other.epoch then Some bro
 
 -- the least epoch that broke, once epoch k came to this value too
 abbrev pub lesser_at : Option BrokenEpoch → ℕ → PostValue → Option BrokenEpoch
-lesser_at least k (Ran records) = least
+lesser_at least k (Ran records parts) = least
 lesser_at least k (Broke first) = lesser_of least (record { epoch = k; first = first })
 lesser_at least k (Skipped below) = least
 

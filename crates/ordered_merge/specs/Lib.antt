@@ -1,3 +1,3 @@
 pub mod Merged
 pub mod Least
-pub mod Parts
+pub mod Ordered

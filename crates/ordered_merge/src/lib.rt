@@ -4,7 +4,7 @@
 mod laws;
 mod least;
 mod merging;
-mod parts;
+mod ordering;
 #[cfg(test)]
 mod tests;
 

@@ -1,55 +1,66 @@
-//! The records of each epoch, in the order of the epochs.
+//! What each epoch came to, in the order of the epochs.
 
-ghost use Rattle.std.specs.Prelude.{◌≡◌, ◌<◌, [], replicate, All, IfOk};
-ghost use Rattle.std.specs.List.{flat_map};
-ghost use Rattle.ordered_merge.specs.Merged.{records_in};
-ghost use Rattle.ordered_merge.specs.Parts.{parts_of};
+ghost use Rattle.std.specs.Prelude.{◌≡◌, ◌<◌, replicate, All, IfOk};
+ghost use Rattle.std.specs.List.{filter_map};
+ghost use Rattle.epoch_core.specs.declared.post.PostValue.TheVariants.{Skipped};
+ghost use Rattle.ordered_merge.specs.Ordered.{in_order, ran_records, ran_parts};
 
+use analysers::Part;
 use epoch_core::{Post, PostValue};
 use sl_base::{Memory, Seq};
 use std::alloc::Global;
 use tracer_lang::Record;
 
-/// The records of a value, and none where it has none.
-fn records_in(alloc: Global, value: PostValue) -> Seq<Record>
-    ensures { result ≡ records_in value }
+/// A value that has nothing, for each of so many epochs.
+fn no_values(alloc: Global, epochs: u32) -> Result<Vec<PostValue>, Memory>
+    ensures { IfOk result (λ values. values.items ≡ replicate epochs (Skipped 0)) }
 {
-    match value {
-        PostValue::Ran { records } => records,
-        PostValue::Broke(_) | PostValue::Skipped { .. } => Seq::new(alloc),
-    }
-}
-
-/// No records for each of so many epochs.
-fn empty_parts(alloc: Global, epochs: u32) -> Result<Vec<Seq<Record>>, Memory>
-    ensures { IfOk result (λ parts. parts.items ≡ replicate epochs []) }
-{
-    let mut parts = Vec::new(alloc);
+    let mut values = Vec::new(alloc);
     for _ in 0..epochs {
-        parts.push(Seq::new(alloc))?;
+        values.push(PostValue::Skipped { below: 0 })?;
     }
-    Ok(parts)
+    Ok(values)
 }
 
-/// The records of each epoch, at the place of its number.
-pub fn by_epoch(alloc: Global, epochs: u32, posts: Vec<Post>) -> Result<Vec<Seq<Record>>, Memory>
+/// What each epoch came to, at the place of its number.
+pub fn by_epoch(alloc: Global, epochs: u32, posts: Vec<Post>) -> Result<Vec<PostValue>, Memory>
     requires { All (λ post. post.epoch < epochs) posts.items }
-    ensures { IfOk result (λ parts. parts.items ≡ parts_of epochs posts.items) }
+    ensures { IfOk result (λ values. values.items ≡ in_order epochs posts.items) }
 {
-    let mut parts = empty_parts(alloc, epochs)?;
+    let mut values = no_values(alloc, epochs)?;
     for post in posts {
-        parts[post.epoch as usize] = records_in(alloc, post.value);
+        values[post.epoch as usize] = post.value;
     }
-    Ok(parts)
+    Ok(values)
 }
 
-/// The records of all epochs, one epoch after the other.
-pub fn joined(alloc: Global, parts: Vec<Seq<Record>>) -> Result<Seq<Record>, Memory>
-    ensures { IfOk result (λ records. records ≡ flat_map (λ part. part) parts.items) }
+/// What the epochs that ran left.
+#[derive(Drop)]
+pub struct Left {
+    /// The records of each.
+    pub records: Vec<Seq<Record>>,
+    /// The parts of each.
+    pub parts: Vec<Seq<Part>>,
+}
+
+/// What the epochs that ran left, epoch by epoch.
+pub fn left_by(alloc: Global, values: Vec<PostValue>) -> Result<Left, Memory>
+    ensures records { IfOk result (λ left. left.records.items
+        ≡ filter_map ran_records values.items) }
+    ensures parts { IfOk result (λ left. left.parts.items ≡ filter_map ran_parts values.items) }
 {
-    let mut records = Vec::new(alloc);
-    for part in parts {
-        records.append(&mut part.into_vec())?;
+    let mut left = Left {
+        records: Vec::new(alloc),
+        parts: Vec::new(alloc),
+    };
+    for value in values {
+        match value {
+            PostValue::Ran { records, parts } => {
+                left.records.push(records)?;
+                left.parts.push(parts)?;
+            }
+            PostValue::Broke(_) | PostValue::Skipped { .. } => {}
+        }
     }
-    Ok(Seq::from_vec(records))
+    Ok(left)
 }
