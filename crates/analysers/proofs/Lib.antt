@@ -2,5 +2,6 @@ pub mod Folds
 mod Merging
 mod Rests
 mod Pieces
+pub mod Plain
 pub mod Meant
 pub mod Parted

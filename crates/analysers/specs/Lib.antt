@@ -10,3 +10,4 @@ pub mod Pieces
 pub mod BinLaws
 pub mod TreeLaws
 pub mod Meanings
+pub mod Plain

@@ -4,12 +4,15 @@ ghost use Rattle.std.specs.Prelude.{◌≡◌, List, ◌++◌, fold};
 ghost use Rattle.tracer_lang.specs.declared.record.Record.{Record};
 ghost use Rattle.analysers.specs.Parts.{folded};
 ghost use Rattle.analysers.specs.Streams.{told_along};
-ghost use Rattle.std.specs.Prelude.{ℕ, ◌%◌, ◌^◌, length, sum, Option, slice_get, None};
+ghost use Rattle.std.specs.Prelude.{ℕ, ◌%◌, ◌^◌, length, sum, Option, slice_get, None, Some};
 ghost use Rattle.std.specs.List.{last_or};
 ghost use Rattle.analysers.specs.declared.part.Bin.{Bin};
 ghost use Rattle.analysers.specs.declared.part.Part.TheVariants as part;
 ghost use Rattle.analysers.specs.declared.trees.TreeKind.TheVariants as tree;
+ghost use Rattle.analysers.specs.declared.kind.KindOf.{KindOf};
 ghost use Rattle.analysers.specs.Analyses.{part_of_all};
+ghost use Rattle.analysers.specs.Kinds.{kind_of};
+ghost use Rattle.analysers.specs.Plain.{IsPlain};
 ghost use Rattle.analysers.specs.Meanings.{words_at, IsLeast, IsGreatest, IsHistogram};
 
 use crate::stream::Stream;
@@ -55,4 +58,10 @@ pub fn trees_mean()
         → part_of_all tree.First rs ≡ part.First (slice_get rs 0) }
     ensures last { (rs : List Record)
         → part_of_all tree.Last rs ≡ part.Last (last_or None rs) }
+{}
+
+/// A law: a word that names an analysis stands in a table of comma-separated values as it is, since
+/// it has no comma, quote or line's end.
+pub fn kinds_are_plain()
+    ensures { (word : List ℕ) (what : KindOf) → kind_of word ≡ Some what → IsPlain word }
 {}
