@@ -57,11 +57,11 @@ few_epochs rec places is cut =
 -- ---- their values
 
 pub length-values : (plan : Plan) → length (values_of plan) ≡ epochs_of plan.cutting
-length-values plan = length-map-range_with_len (λ k. posted (value_in plan k)) 0 (epochs_of plan.cutting)
+length-values plan = length-map-range_with_len (λ k. posted plan.kinds (value_in plan k)) 0 (epochs_of plan.cutting)
 
-pub slice_get-values : (plan : Plan) (k : ℕ) → k < epochs_of plan.cutting → slice_get (values_of plan) k ≡ Some (posted (value_in plan k))
+pub slice_get-values : (plan : Plan) (k : ℕ) → k < epochs_of plan.cutting → slice_get (values_of plan) k ≡ Some (posted plan.kinds (value_in plan k))
 slice_get-values plan k within =
-    let values : ℕ → PostValue = λ j. posted (value_in plan j) in
+    let values : ℕ → PostValue = λ j. posted plan.kinds (value_in plan j) in
     let none = post.Skipped 0 in
     slice_get-get_or (values_of plan) k none (omega (arith, length-values plan))
     ∙ ap Some (get_or-map-range_with_len values 0 (epochs_of plan.cutting) k k none within (zero-add k))

@@ -1,17 +1,20 @@
 -- What the epochs of a plan come to.
 use Rattle.std.specs.Prelude.{ℕ, ◌+◌, List, map, Result, Ok, Err, slice_index, slice_index_or, All}
 use Rattle.std.specs.List.{range_with_len}
+use Rattle.std.proofs.Common.{refl}
 use Rattle.std.proofs.lemmas.List.Elements.{All-map}
 use Rattle.sl_model.specs.State.{State}
 use Rattle.call_log.specs.declared.breaks.Break.{Break}
 use Rattle.tracer_lang.specs.declared.record.Record.{Record}
+use Rattle.analysers.specs.declared.kind.Kind.{Kind}
+use Rattle.analysers.specs.Pieces.{parts_of}
 use Rattle.tracer_lang.specs.Script.{tree_of}
 use Rattle.tracer_lang.specs.Firing.{records_at}
 use Rattle.rv_machine.specs.Machine.{state_of}
 use Rattle.checkpoints.specs.RecordedRun.{opened_of}
 use Rattle.epoch_core.specs.declared.post.PostValue.{PostValue}
 use Rattle.epoch_core.specs.declared.post.PostValue.TheVariants.{Ran, Broke}
-use Rattle.epoch_core.specs.Posts.{IsOwn}
+use Rattle.epoch_core.specs.Posts.{IsOwn, HasParts}
 use Rattle.epoch_run.specs.declared.plan.Plan.{Plan}
 use Rattle.epoch_run.specs.declared.plan.Worker.{Worker}
 use Rattle.epoch_run.specs.Records.{Tracers}
@@ -36,22 +39,35 @@ abbrev pub size_in : Plan → ℕ → ℕ
 size_in plan k =
     epoch_size plan.checkpoints.rec (slice_index plan.cutting k) (slice_index plan.cutting (k + 1))
 
--- what an epoch came to, as it is posted
-abbrev pub posted : Result (List Record) Break → PostValue
-posted (Ok records) = Ran records
-posted (Err broken) = Broke broken
+-- what an epoch came to, as it is posted: records with the parts that they make for some analyses
+abbrev pub posted : List Kind → Result (List Record) Break → PostValue
+posted kinds (Ok records) = Ran records (parts_of kinds records)
+posted kinds (Err broken) = Broke broken
 
 -- the values of all epochs of a plan, in order
 abbrev pub values_of : Plan → List PostValue
-values_of plan = map (λ k. posted (value_in plan k)) (range_with_len 0 (epochs_of plan.cutting))
+values_of plan =
+    map (λ k. posted plan.kinds (value_in plan k)) (range_with_len 0 (epochs_of plan.cutting))
 
 -- an epoch runs or breaks; it is never skipped
-own : (value : Result (List Record) Break) → IsOwn (posted value)
-own (Ok records) = tt
-own (Err broken) = tt
+own : (kinds : List Kind) (value : Result (List Record) Break) → IsOwn (posted kinds value)
+own kinds (Ok records) = tt
+own kinds (Err broken) = tt
 
 pub values_are_own : (plan : Plan) → All IsOwn (values_of plan)
 values_are_own plan =
     let numbers : List ℕ = range_with_len 0 (epochs_of plan.cutting) in
-    All-map IsOwn (λ k. posted (value_in plan k)) numbers
-    (λ k d h. own (value_in plan (slice_index_or numbers k d)))
+    All-map IsOwn (λ k. posted plan.kinds (value_in plan k)) numbers
+    (λ k d h. own plan.kinds (value_in plan (slice_index_or numbers k d)))
+
+-- the parts of an epoch are those that its records make
+have : (kinds : List Kind) (value : Result (List Record) Break)
+    → HasParts kinds (posted kinds value)
+have kinds (Ok records) = refl
+have kinds (Err broken) = tt
+
+pub values_have_parts : (plan : Plan) → All (HasParts plan.kinds) (values_of plan)
+values_have_parts plan =
+    let numbers : List ℕ = range_with_len 0 (epochs_of plan.cutting) in
+    All-map (HasParts plan.kinds) (λ k. posted plan.kinds (value_in plan k)) numbers
+    (λ k d h. have plan.kinds (value_in plan (slice_index_or numbers k d)))

@@ -9,6 +9,7 @@ ghost use Rattle.epoch_run.specs.Plans.{posted, value_in, size_in};
 
 use crate::plan::{Plan, Worker};
 use crate::running::run_between;
+use analysers::{Kind, parts_of};
 use call_log::Break;
 use epoch_core::{Post, PostValue, Runs};
 use sl_base::{Memory, Refused, Seq, Steps};
@@ -16,13 +17,21 @@ use std::alloc::Global;
 use std::sync::ledger::Ledger;
 use tracer_lang::Record;
 
-/// What is posted of what an epoch came to.
-fn posted(came: Result<Seq<Record>, Refused<Break>>) -> Result<PostValue, Memory>
+/// What is posted of what an epoch came to: its records with their parts of these analyses, or its
+/// first break.
+fn posted(
+    alloc: Global,
+    kinds: &[Kind],
+    came: Result<Seq<Record>, Refused<Break>>,
+) -> Result<PostValue, Memory>
     ensures { (due : Result (List Left) FirstBreak)
-        → Tells came due → IfOk result (λ value. value ≡ posted due) }
+        → Tells came due → IfOk result (λ value. value ≡ posted kinds.now due) }
 {
     match came {
-        Ok(records) => Ok(PostValue::Ran { records }),
+        Ok(records) => {
+            let parts = parts_of(alloc, kinds, records.as_slice())?;
+            Ok(PostValue::Ran { records, parts })
+        }
         Err(Refused::Fault(broken)) => Ok(PostValue::Broke(broken)),
         Err(Refused::Memory) => Err(Memory),
     }
@@ -44,13 +53,15 @@ pub fn run_epoch<L: Ledger>(
 ) -> Result<Post, Memory>
     requires { k < epochs_of plan.now.cutting }
     ensures epoch { IfOk result (λ post. post.epoch ≡ k) }
-    ensures value { IfOk result (λ post. post.value ≡ posted (value_in plan.now k)) }
+    ensures value { IfOk result (λ post.
+        post.value ≡ posted plan.now.kinds (value_in plan.now k)) }
     ensures steps { steps.new ≤ steps.old + size_in plan.now k }
 {
     let places = plan.cutting.places();
     let a = places[k as usize];
     let b = places[k as usize + 1];
-    let value = posted(run_between(alloc, plan, a, b, worker, steps))?;
+    let kinds = plan.kinds.as_slice();
+    let value = posted(alloc, kinds, run_between(alloc, plan, a, b, worker, steps))?;
     Ok(Post { epoch: k, value })
 }
 

@@ -8,18 +8,20 @@ ghost use Rattle.epoch_run.specs.EpochLaws.{epochs_of};
 ghost use Rattle.epoch_run.specs.Loaded.{IsLoaded, IsLoaded-prop};
 ghost use Rattle.epoch_run.specs.Watched.{AreWatched, AreWatched-prop};
 
+use analysers::Kind;
 use checkpoints::Checkpoints;
 use elf_image::Image;
 use epoch_cut::Cutting;
 use page_frames::Frames;
 use rv_machine::Machine;
-use sl_base::Memory;
+use sl_base::{Memory, Seq};
 use sl_model::{Layout, RunState};
 use std::alloc::Global;
 use tracepoints::Points;
 use tracer_lang::Script;
 
-/// A recording, cut into epochs, with the script whose tracers run on them.
+/// A recording, cut into epochs, with the script whose tracers run on them and the analyses of what
+/// they leave.
 #[derive(Drop)]
 pub struct Plan {
     /// The image that the program is loaded from.
@@ -33,6 +35,8 @@ pub struct Plan {
     pub script: Script,
     /// The points of the script, at which they fire.
     pub points: Points,
+    /// The analyses.
+    pub kinds: Seq<Kind>,
     ghost loaded: { IsLoaded image checkpoints } by { IsLoaded-prop image checkpoints },
     ghost cuts: { IsCutting (end_place checkpoints.rec) cutting },
     ghost watched: { AreWatched points script } by { AreWatched-prop points script },
