@@ -27,6 +27,7 @@ refusal_code (refusal.TooLong limit name) = 3
 refusal_code (refusal.RecordingBroken fault) = 4
 refusal_code (refusal.ImageBroken fault) = 5
 refusal_code (refusal.ScriptRefused fault) = 6
+refusal_code (refusal.AnalysisRefused position) = 7
 refusal_code (refusal.ReplayBroken first) = 8
 refusal_code (refusal.CheckpointDiffers first) = 9
 refusal_code (refusal.AsmRefused fault) = 13
@@ -172,6 +173,8 @@ refusal_line (refusal.ScriptRefused fault) =
     ∷ codes ": "
     ∷ script_cause_name fault.cause
     ∷ [])
+refusal_line (refusal.AnalysisRefused position) =
+    line_of (codes "analysis " ∷ decimal position ∷ codes " is none" ∷ [])
 refusal_line (refusal.ReplayBroken first) = break_line first.count first.kind
 refusal_line (refusal.CheckpointDiffers first) = break_line first.count first.kind
 refusal_line (refusal.AsmRefused fault) =

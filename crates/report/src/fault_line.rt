@@ -295,6 +295,10 @@ fn write_refusal<O: Sink>(out: &mut O, why: &Refusal) -> Result<(), SinkFailed>
                 Text(script_cause_name(fault.cause)),
             ],
         ),
+        Refusal::AnalysisRefused(position) => write_line(
+            out,
+            &[Text("analysis "), Number(*position), Text(" is none")],
+        ),
         Refusal::ReplayBroken(first) | Refusal::CheckpointDiffers(first) => {
             write_break(out, first.count, &first.kind)
         }

@@ -23,6 +23,8 @@ pub enum Refusal {
     ImageBroken(ImageFault),
     /// The text is no script of the image, by its first fault.
     ScriptRefused(ScriptFault),
+    /// The word at this position, from 1, names no analysis.
+    AnalysisRefused(u64),
     /// The replay first differs from the recording by a call or by its end.
     ReplayBroken(Break),
     /// The replay first differs from the recording at a checkpoint.
@@ -63,6 +65,7 @@ impl Refusal {
             Refusal::RecordingBroken(_) => 4,
             Refusal::ImageBroken(_) => 5,
             Refusal::ScriptRefused(_) => 6,
+            Refusal::AnalysisRefused(_) => 7,
             Refusal::ReplayBroken(_) => 8,
             Refusal::CheckpointDiffers(_) => 9,
             Refusal::AsmRefused(_) => 13,

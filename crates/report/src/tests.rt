@@ -88,6 +88,8 @@ fn refusals(rt: HostRuntime) -> Result<(), Fail> {
             "sledge: script refused at 19: Name unknown\n"
         )?
     );
+    let why = Refusal::AnalysisRefused(2);
+    assert!(rt; refuses(alloc, why, 7, "sledge: analysis 2 is none\n")?);
     let why = Refusal::CheckpointDiffers(Break {
         count: 2,
         kind: BreakKind::CheckpointDiffers {

@@ -18,6 +18,9 @@ returns-in-ImageBroken-clause-written g c = rw (c.in-ImageBroken.is, ← c.image
 pub returns-in-ScriptRefused-clause-written : goal.returns-in-ScriptRefused-clause-written
 returns-in-ScriptRefused-clause-written g c = rw (c.in-ScriptRefused.is, ← c.script_cause_name.ensures) c.write_line-in-ScriptRefused.ensures.written
 
+pub returns-in-AnalysisRefused-clause-written : goal.returns-in-AnalysisRefused-clause-written
+returns-in-AnalysisRefused-clause-written g c = rw c.in-AnalysisRefused.is c.write_line-in-AnalysisRefused.ensures.written
+
 pub returns-in-AsmRefused-clause-written : goal.returns-in-AsmRefused-clause-written
 returns-in-AsmRefused-clause-written g c = rw (c.in-AsmRefused.is, ← c.asm_cause_name.ensures) c.write_line-in-AsmRefused.ensures.written
 
