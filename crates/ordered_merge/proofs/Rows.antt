@@ -101,8 +101,8 @@ second_broke kinds r a = ran kinds r ∷ Broke a ∷ ran kinds [] ∷ []
 abbrev pub first_broke : List Kind → Break → List PostValue
 first_broke kinds a = Broke a ∷ ran kinds [] ∷ ran kinds [] ∷ []
 
-abbrev pub two_broke : List Kind → Break → Break → List PostValue
-two_broke kinds a b = ran kinds [] ∷ Broke a ∷ Broke b ∷ []
+abbrev pub two_broke : List Kind → List Record → Break → Break → List PostValue
+two_broke kinds r a b = ran kinds r ∷ Broke a ∷ Broke b ∷ []
 
 pub second_has : (kinds : List Kind) (r : List Record) (a : Break)
     → All (HasParts kinds) (second_broke kinds r a)
@@ -117,9 +117,10 @@ first_has kinds a =
     (All-cons (HasParts kinds) (ran kinds []) (ran kinds [] ∷ []) refl
     (All-cons (HasParts kinds) (ran kinds []) [] refl (All-nil (HasParts kinds))))
 
-pub two_have : (kinds : List Kind) (a b : Break) → All (HasParts kinds) (two_broke kinds a b)
-two_have kinds a b =
-    All-cons (HasParts kinds) (ran kinds []) (Broke a ∷ Broke b ∷ []) refl
+pub two_have : (kinds : List Kind) (r : List Record) (a b : Break)
+    → All (HasParts kinds) (two_broke kinds r a b)
+two_have kinds r a b =
+    All-cons (HasParts kinds) (ran kinds r) (Broke a ∷ Broke b ∷ []) refl
     (All-cons (HasParts kinds) (Broke a) (Broke b ∷ []) tt
     (All-cons (HasParts kinds) (Broke b) [] tt (All-nil (HasParts kinds))))
 

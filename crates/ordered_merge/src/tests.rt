@@ -1,56 +1,60 @@
 //! Merges that were worked by hand, from posts in several orders.
 
-ghost use Rattle.std.specs.Prelude.{◌≡◌, List, [], ◌∷◌, length, IfOk};
+ghost use Rattle.std.specs.Prelude.{◌≡◌, List, [], ◌∷◌, All, length, IfOk};
 ghost use Rattle.call_log.specs.declared.breaks.Break.{Break};
+ghost use Rattle.tracer_lang.specs.declared.record.Record.{Record as Left};
+ghost use Rattle.analysers.specs.Pieces.{parts_of};
 ghost use Rattle.epoch_core.specs.declared.post.PostValue.{PostValue as Value};
 ghost use Rattle.epoch_core.specs.declared.post.PostValue.TheVariants.{Ran, Broke, Skipped};
-ghost use Rattle.epoch_core.specs.Listed.{record_of};
-ghost use Rattle.epoch_core.specs.Posts.{Posted, post_of};
+ghost use Rattle.epoch_core.specs.Posts.{Posted, HasParts, post_of};
 
 use crate::{merge, merged_means};
+use analysers::{Kind, Row, parts_of, read_kind};
 use call_log::{Break, BreakKind};
 use epoch_core::{Post, PostValue};
 use sl_base::{Memory, Refused, Seq};
 use std::alloc::Global;
+use std::fmt::Write;
 use std::test::Fail;
 use tracer_lang::{Record, TracerEnd};
 
-/// The record of a tracepoint at 0x10008, before the third instruction.
-fn record_of(alloc: Global, word: u32) -> Result<Record, Memory>
-    ensures { IfOk result (λ made. made ≡ record_of word) }
-{
+/// The record of a tracepoint that emits one word.
+fn record(alloc: Global, count: u64, point: u32, word: u32) -> Result<Record, Memory> {
     Ok(Record {
-        count: 2,
-        point: 0,
-        pc: 0x10008,
+        count,
+        point,
+        pc: 0x10010,
         words: Seq::from_vec(vec![in alloc; word]?),
         outcome: TracerEnd::Done,
     })
 }
 
-/// The post of an epoch that left no record.
-fn quiet(alloc: Global, epoch: u32) -> Post
-    ensures { result ≡ post_of epoch (Ran []) }
-{
-    Post {
-        epoch,
-        value: PostValue::Ran {
-            records: Seq::new(alloc),
-        },
-    }
+/// Three records, before the instructions 4, 5 and 6.
+fn table(alloc: Global) -> Result<Vec<Record>, Memory> {
+    vec![in alloc;
+        record(alloc, 4, 0, 0x11000)?,
+        record(alloc, 5, 2, 0x11000)?,
+        record(alloc, 6, 1, 0x0102_0304)?,
+    ]
+    .map_err(|_| Memory)
 }
 
-/// The post of an epoch that left two records.
-fn ran(alloc: Global, epoch: u32, first: u32, second: u32) -> Result<Post, Memory>
+/// The post of an epoch that ran from one count to another.
+fn ran(alloc: Global, kinds: &[Kind], epoch: u32, from: u64, to: u64) -> Result<Post, Memory>
     ensures { IfOk result
-        (λ post. post ≡ post_of epoch (Ran (record_of first ∷ record_of second ∷ []))) }
+        (λ post. (rs : List Left) × (post ≡ post_of epoch (Ran rs (parts_of kinds.now rs)))) }
 {
-    let records = vec![in alloc; record_of(alloc, first)?, record_of(alloc, second)?]?;
+    let mut records = Vec::new(alloc);
+    for r in table(alloc)? {
+        if from <= r.count && r.count < to {
+            records.push(r)?;
+        }
+    }
+    let parts = parts_of(alloc, kinds, &records)?;
+    let records = Seq::from_vec(records);
     Ok(Post {
         epoch,
-        value: PostValue::Ran {
-            records: Seq::from_vec(records),
-        },
+        value: PostValue::Ran { records, parts },
     })
 }
 
@@ -74,21 +78,79 @@ fn skipped(epoch: u32, below: u32) -> Post
     }
 }
 
-/// The words that three epochs emitted, or the break.
-fn told(alloc: Global, a: Post, b: Post, c: Post) -> Result<Result<Vec<u32>, Break>, Memory>
-    requires { (values : List Value) × (length values ≡ 3) × Posted values (a ∷ b ∷ c ∷ []) }
+/// The kinds of some words with a space between two.
+fn kinds_of(alloc: Global, words: &str) -> Result<Vec<Kind>, Memory> {
+    let mut kinds = Vec::new(alloc);
+    for word in words.split(' ') {
+        if let Some(kind) = read_kind(alloc, word)? {
+            kinds.push(kind)?;
+        }
+    }
+    Ok(kinds)
+}
+
+/// Rows as the tables below say them: a record by its count, `n` with a number, a word, or a word
+/// with its number behind a colon.
+fn push_rows(text: &mut String, rows: &[Row]) -> Result<(), Memory> {
+    for row in rows {
+        match row {
+            Row::Of(r) => write!(text, "{} ", r.count),
+            Row::Number(n) => write!(text, "n{n} "),
+            Row::Word(word) => write!(text, "{word} "),
+            Row::Bin { value, count } => write!(text, "{value}:{count} "),
+        }
+        .map_err(|_| Memory)?;
+    }
+    Ok(())
+}
+
+/// The rows of each analysis over three epochs, each behind a bar, or the break.
+fn told(
+    alloc: Global,
+    kinds: &[Kind],
+    a: Post,
+    b: Post,
+    c: Post,
+) -> Result<Result<String, Break>, Memory>
+    requires { (values : List Value) × (length values ≡ 3) × Posted values (a ∷ b ∷ c ∷ [])
+        × All (HasParts kinds.now) values }
 {
-    match merge(alloc, 3, vec![in alloc; a, b, c]?) {
-        Ok(records) => {
-            let mut words = Vec::new(alloc);
-            for record in records.as_slice() {
-                words.extend_from_slice(record.words.as_slice())?;
+    match merge(alloc, kinds, 3, vec![in alloc; a, b, c]?) {
+        Ok(merged) => {
+            let mut text = String::new(alloc);
+            for rows in merged.rows.as_slice() {
+                text.push('|')?;
+                push_rows(&mut text, rows.as_slice())?;
             }
-            Ok(Ok(words))
+            Ok(Ok(text))
         }
         Err(Refused::Fault(first)) => Ok(Err(first)),
         Err(Refused::Memory) => Err(Memory),
     }
+}
+
+/// The posts in the order of the epochs.
+fn rising(alloc: Global, kinds: &[Kind]) -> Result<Result<String, Break>, Memory> {
+    let first = ran(alloc, kinds, 0, 0, 4)?;
+    let second = ran(alloc, kinds, 1, 4, 5)?;
+    let third = ran(alloc, kinds, 2, 5, 7)?;
+    told(alloc, kinds, first, second, third)
+}
+
+/// The posts in falling order.
+fn falling(alloc: Global, kinds: &[Kind]) -> Result<Result<String, Break>, Memory> {
+    let first = ran(alloc, kinds, 0, 0, 5)?;
+    let second = ran(alloc, kinds, 1, 5, 6)?;
+    let third = ran(alloc, kinds, 2, 6, 7)?;
+    told(alloc, kinds, third, second, first)
+}
+
+/// The posts in another order.
+fn mixed(alloc: Global, kinds: &[Kind]) -> Result<Result<String, Break>, Memory> {
+    let first = ran(alloc, kinds, 0, 0, 6)?;
+    let second = ran(alloc, kinds, 1, 6, 6)?;
+    let third = ran(alloc, kinds, 2, 6, 7)?;
+    told(alloc, kinds, second, third, first)
 }
 
 /// The break of a checkpoint whose recorded x10 is 6 where the program has 5.
@@ -109,31 +171,36 @@ const SECOND: Break = Break {
     kind: BreakKind::NoCall { index: 0 },
 };
 
+/// The second epoch broke, and the third was skipped.
+fn third_skipped(alloc: Global, kinds: &[Kind]) -> Result<Result<String, Break>, Memory> {
+    let first = ran(alloc, kinds, 0, 0, 5)?;
+    told(alloc, kinds, skipped(2, 1), first, broke(1, FIRST))
+}
+
+/// The first epoch broke, and both others were skipped.
+fn both_skipped(alloc: Global, kinds: &[Kind]) -> Result<Result<String, Break>, Memory> {
+    told(alloc, kinds, broke(0, SECOND), skipped(2, 0), skipped(1, 0))
+}
+
+/// Two epochs broke.
+fn two_broke(alloc: Global, kinds: &[Kind]) -> Result<Result<String, Break>, Memory> {
+    let first = ran(alloc, kinds, 0, 0, 5)?;
+    told(alloc, kinds, broke(2, SECOND), broke(1, FIRST), first)
+}
+
+/// Analyses, and what they give.
+const WORDS: &str = "changes=0 first last open=0:1 all count hist=0 rising=0 done";
+
+const GIVEN: &str = "|4 6 |4 |6 ||4 5 6 |n3 |69632:2 16909060:1 |4 6 |4 5 6 ";
+
 #[test]
-fn records_stand_in_order(rt: HostRuntime) -> Result<(), Fail> {
+fn analyses_of_three_epochs(rt: HostRuntime) -> Result<(), Fail> {
     let alloc = rt.alloc();
-    let words: &[u32] = &[5, 6, 7, 8];
-    let rising = told(
-        alloc,
-        ran(alloc, 0, 5, 6)?,
-        quiet(alloc, 1),
-        ran(alloc, 2, 7, 8)?,
-    )?;
-    assert_eq!(rt; rising?.as_slice(), words);
-    let falling = told(
-        alloc,
-        ran(alloc, 2, 7, 8)?,
-        quiet(alloc, 1),
-        ran(alloc, 0, 5, 6)?,
-    )?;
-    assert_eq!(rt; falling?.as_slice(), words);
-    let mixed = told(
-        alloc,
-        quiet(alloc, 1),
-        ran(alloc, 2, 7, 8)?,
-        ran(alloc, 0, 5, 6)?,
-    )?;
-    assert_eq!(rt; mixed?.as_slice(), words);
+    let kinds = kinds_of(alloc, WORDS)?;
+    assert_eq!(rt; rising(alloc, &kinds)??.as_str(), GIVEN);
+    assert_eq!(rt; falling(alloc, &kinds)??.as_str(), GIVEN);
+    assert_eq!(rt; mixed(alloc, &kinds)??.as_str(), GIVEN);
+    assert_eq!(rt; rising(alloc, &[])??.as_str(), "");
     merged_means();
     Ok(())
 }
@@ -141,13 +208,9 @@ fn records_stand_in_order(rt: HostRuntime) -> Result<(), Fail> {
 #[test]
 fn least_break_is_told(rt: HostRuntime) -> Result<(), Fail> {
     let alloc = rt.alloc();
-    let skips = told(alloc, skipped(2, 1), ran(alloc, 0, 5, 6)?, broke(1, FIRST))?;
-    assert_eq!(rt; skips.err(), Some(FIRST));
-    let both_skip = told(alloc, broke(0, SECOND), skipped(2, 0), skipped(1, 0))?;
-    assert_eq!(rt; both_skip.err(), Some(SECOND));
-    let falling = told(alloc, broke(2, SECOND), broke(1, FIRST), quiet(alloc, 0))?;
-    assert_eq!(rt; falling.err(), Some(FIRST));
-    let rising = told(alloc, quiet(alloc, 0), broke(1, FIRST), broke(2, SECOND))?;
-    assert_eq!(rt; rising.err(), Some(FIRST));
+    let kinds = kinds_of(alloc, WORDS)?;
+    assert_eq!(rt; third_skipped(alloc, &kinds)?.err(), Some(FIRST));
+    assert_eq!(rt; both_skipped(alloc, &kinds)?.err(), Some(SECOND));
+    assert_eq!(rt; two_broke(alloc, &kinds)?.err(), Some(FIRST));
     Ok(())
 }
