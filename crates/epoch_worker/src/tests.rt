@@ -44,9 +44,11 @@ fn value_of(alloc: Global, listed: Result<Option<u32>, Break>) -> Result<PostVal
     match listed {
         Ok(None) => Ok(PostValue::Ran {
             records: Seq::new(alloc),
+            parts: Seq::new(alloc),
         }),
         Ok(Some(word)) => Ok(PostValue::Ran {
             records: Seq::from_vec(vec![in alloc; record_of(alloc, word)?]?),
+            parts: Seq::new(alloc),
         }),
         Err(first) => Ok(PostValue::Broke(first)),
     }
