@@ -2,6 +2,7 @@
 
 ghost use Rattle.std.specs.Prelude.{◌≡◌, ◌≤◌, length, Ok, Some, [], IfOk, IfErr};
 ghost use Rattle.sl_base.specs.Refusals.{Fails};
+ghost use Rattle.elf_image.specs.Loadable.{IsLoadable};
 ghost use Rattle.elf_image.specs.Written.{IsWritable, written};
 ghost use Rattle.rv_asm.specs.Assembly.{assembly};
 ghost use Rattle.workload.specs.Source.{source_text};
@@ -56,6 +57,7 @@ fn recording_of(alloc: Global, image: &Image, size: u32) -> Result<Recording, Me
 pub fn generate(alloc: Global, seed: u32, size: u32) -> Result<Generated, Refused<AsmFault>>
     requires some { 1 ≤ size }
     ensures made { IfOk result (λ made. IsGenerated seed size made.image made.rec) }
+    ensures loadable { IfOk result (λ made. IsLoadable made.image) }
     ensures refused { IfErr result (λ why. Fails why (assembly (source_text seed size))) }
 {
     let source = source_text(alloc, seed, size)?;
