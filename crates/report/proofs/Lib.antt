@@ -2,3 +2,5 @@ mod Writing
 mod Joining
 mod Registers
 mod Fields
+mod CsvText
+mod PlainTexts

@@ -3,3 +3,4 @@ pub mod Status
 pub mod Writing
 pub mod Pieces
 pub mod RunEnd
+pub mod Table

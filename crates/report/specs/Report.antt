@@ -5,6 +5,9 @@ use Rattle.sl_base.specs.Text.{word_text}
 use Rattle.call_log.specs.declared.entry.End.{End}
 use Rattle.call_log.specs.declared.entry.End.TheVariants as end
 use Rattle.rec_format.specs.declared.recording.Recording.{Recording}
+use Rattle.analysers.specs.declared.kind.Kind.{Kind}
+use Rattle.analysers.specs.declared.row.Row.{Row}
+use Rattle.analysers.specs.declared.row.Row.TheVariants as row
 use Rattle.report.specs.declared.run_end.RunEnd.{RunEnd}
 use Rattle.tracer_lang.specs.declared.record.Record.{Record}
 use Rattle.tracer_lang.specs.declared.record.TracerEnd.{TracerEnd}
@@ -61,6 +64,30 @@ record_line position kind r =
     ∷ outcome_text r.outcome
     ∷ words_text r.words
     ∷ [])
+
+-- a line that has a word or a number, and a count where there is one
+abbrev pub value_line : ℕ → List ℕ → List ℕ → List ℕ → List ℕ
+value_line position kind count value =
+    line (decimal position ∷ kind ∷ count ∷ [] ∷ [] ∷ [] ∷ value ∷ [])
+
+-- a row's line for an analysis, by the analysis's position from 1 and its word
+abbrev pub row_line : ℕ → List ℕ → Row → List ℕ
+row_line position kind (row.Of r) = record_line position kind r
+row_line position kind (row.Number n) = value_line position kind [] (decimal n)
+row_line position kind (row.Word word) = value_line position kind [] (word_text word)
+row_line position kind (row.Bin value count) =
+    value_line position kind (decimal count) (word_text value)
+
+-- the lines of one analysis
+abbrev pub analysis_lines : ℕ → List ℕ → List Row → List ℕ
+analysis_lines position kind rows = flat_map (row_line position kind) rows
+
+-- the lines of analyses with these rows, the first of them having this position
+abbrev pub analyses_lines : ℕ → List Kind → List (List Row) → List ℕ
+analyses_lines position [] all = []
+analyses_lines position (kind ∷ kinds) [] = []
+analyses_lines position (kind ∷ kinds) (rows ∷ all) =
+    analysis_lines position kind.word rows ++ analyses_lines (position + 1) kinds all
 
 -- the analysis `all`: a line for each record
 abbrev pub all_lines : ℕ → List Record → List ℕ

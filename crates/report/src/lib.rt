@@ -5,6 +5,7 @@ mod fault_line;
 mod lines;
 mod run_end;
 mod status;
+mod table;
 mod text;
 
 pub use fault_line::write_fault;

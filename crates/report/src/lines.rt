@@ -1,12 +1,15 @@
 //! The lines of a report: seven fields, with commas between them.
 
-ghost use Rattle.std.specs.Prelude.{◌≡◌, ◌++◌, ◌∷◌, [], List, ℕ, length, map, OnOk, codes, if◌then◌else◌};
+ghost use Rattle.std.specs.Prelude.{◌≡◌, ◌++◌, ◌∷◌, OnOk, decimal, if◌then◌else◌};
 ghost use Rattle.std.specs.List.{join_with_byte};
-ghost use Rattle.sl_base.specs.Text.{word_text as text_of_word};
-ghost use Rattle.report.specs.Report.{words_text, register_text, register_texts, line, outcome_name, outcome_value, outcome_text, record_line, end_kind, end_value, end_line, regs_line};
+ghost use Rattle.analysers.specs.Plain.{IsPlain};
+ghost use Rattle.report.specs.Report.{words_text, register_text, register_texts, outcome_name, outcome_value, outcome_text, record_line, value_line, row_line, analysis_lines, end_kind, end_value, end_line, regs_line};
+ghost use Rattle.report.specs.Table.{text_in, IsReady};
 
+use crate::table::{Table, push_line};
+use analysers::Row;
 use call_log::End;
-use sl_base::{decimal_text, word_text};
+use sl_base::{DecimalText, Memory, decimal_text, word_text};
 use std::alloc::{AllocError, Global};
 use tracer_lang::{Record, TracerEnd};
 
@@ -24,27 +27,6 @@ fn push_piece(
         out.push(separator)?;
     }
     out.extend_from_slice(piece)
-}
-
-/// Adds pieces with a separator between two.
-fn push_joined(out: &mut Vec<u8>, separator: u8, pieces: &[&[u8]]) -> Result<(), AllocError>
-    ensures { OnOk result (out.new.items
-        ≡ out.old.items ++ join_with_byte separator (map (λ p. p.now) pieces.now)) }
-{
-    for (i, piece) in pieces.iter().enumerate() {
-        push_piece(out, separator, i == 0, piece)?;
-    }
-    Ok(())
-}
-
-/// Adds a line of these fields.
-#[tactic(auto, unfolding(crate::specs::Report::line))]
-fn push_line(out: &mut Vec<u8>, fields: &[&[u8]]) -> Result<(), AllocError>
-    ensures { OnOk result (out.new.items ≡ out.old.items ++ line (map (λ p. p.now) fields.now)) }
-{
-    push_joined(out, b',', fields)?;
-    out.push(b'\n')?;
-    Ok(())
 }
 
 /// Adds words with one space between two.
@@ -133,16 +115,27 @@ fn push_registers(out: &mut Vec<u8>, registers: &[u32; 32]) -> Result<(), AllocE
     Ok(())
 }
 
+/// A number in decimal digits, which need no quotes.
+fn number_text(n: u64) -> DecimalText
+    ensures text { result ≡ decimal n }
+    ensures plain { IsPlain (decimal n) }
+{
+    decimal_text(n)
+}
+
 /// Adds a record's line for an analysis, by the analysis's position from 1 and its word.
-pub fn push_record_line(
+fn push_record_line(
     alloc: Global,
-    out: &mut Vec<u8>,
-    position: u32,
-    kind: &str,
+    out: &mut Table,
+    position: u64,
+    kind: &[u8],
     entry: &Record,
-) -> Result<(), AllocError>
-    ensures { OnOk result (out.new.items
-        ≡ out.old.items ++ record_line position kind.now entry.now) }
+) -> Result<(), Memory>
+    requires ready { IsReady out.old }
+    requires plain { IsPlain kind.now }
+    ensures ready { OnOk result (IsReady out.new) }
+    ensures text { OnOk result
+        (text_in out.new ≡ text_in out.old ++ record_line position kind.now entry.now) }
 {
     let mut outcome = Vec::new(alloc);
     push_outcome(&mut outcome, &entry.outcome)?;
@@ -151,15 +144,97 @@ pub fn push_record_line(
     push_line(
         out,
         &[
-            decimal_text(u64::from(position)).as_bytes(),
-            kind.as_bytes(),
-            decimal_text(entry.count).as_bytes(),
-            decimal_text(u64::from(entry.point)).as_bytes(),
+            number_text(position).as_bytes(),
+            kind,
+            number_text(entry.count).as_bytes(),
+            number_text(u64::from(entry.point)).as_bytes(),
             word_text(entry.pc).as_bytes(),
             outcome.as_slice(),
             words.as_slice(),
         ],
     )
+}
+
+/// Adds a line that has a word or a number, and a count where there is one.
+fn push_value_line<'a>(
+    out: &mut Table,
+    position: u64,
+    kind: &'a [u8],
+    count: &'a [u8],
+    value: &'a [u8],
+) -> Result<(), Memory>
+    requires ready { IsReady out.old }
+    requires plain { IsPlain kind.now }
+    requires plain_count { IsPlain count.now }
+    requires plain_value { IsPlain value.now }
+    ensures ready { OnOk result (IsReady out.new) }
+    ensures text { OnOk result (text_in out.new
+        ≡ text_in out.old ++ value_line position kind.now count.now value.now) }
+{
+    push_line(
+        out,
+        &[
+            number_text(position).as_bytes(),
+            kind,
+            count,
+            b"",
+            b"",
+            b"",
+            value,
+        ],
+    )
+}
+
+/// Adds a row's line for an analysis, by the analysis's position from 1 and its word.
+fn push_row(
+    alloc: Global,
+    out: &mut Table,
+    position: u64,
+    kind: &[u8],
+    row: &Row,
+) -> Result<(), Memory>
+    requires ready { IsReady out.old }
+    requires plain { IsPlain kind.now }
+    ensures ready { OnOk result (IsReady out.new) }
+    ensures text { OnOk result
+        (text_in out.new ≡ text_in out.old ++ row_line position kind.now row.now) }
+{
+    match row {
+        Row::Of(entry) => push_record_line(alloc, out, position, kind, entry),
+        Row::Number(n) => {
+            push_value_line(out, position, kind, b"", number_text(*n).as_bytes())
+        }
+        Row::Word(word) => {
+            push_value_line(out, position, kind, b"", word_text(*word).as_bytes())
+        }
+        Row::Bin { value, count } => push_value_line(
+            out,
+            position,
+            kind,
+            number_text(*count).as_bytes(),
+            word_text(*value).as_bytes(),
+        ),
+    }
+}
+
+/// Adds the lines of one analysis, by its position from 1 and its word.
+pub fn push_analysis(
+    alloc: Global,
+    out: &mut Table,
+    position: u64,
+    kind: &[u8],
+    rows: &[Row],
+) -> Result<(), Memory>
+    requires ready { IsReady out.old }
+    requires plain { IsPlain kind.now }
+    ensures ready { OnOk result (IsReady out.new) }
+    ensures text { OnOk result
+        (text_in out.new ≡ text_in out.old ++ analysis_lines position kind.now rows.now) }
+{
+    for row in rows {
+        push_row(alloc, out, position, kind, row)?;
+    }
+    Ok(())
 }
 
 /// The kind of an end.
@@ -184,15 +259,18 @@ pub fn end_value(end: &End) -> u32
 }
 
 /// Adds the line of the end, with the count and the program counter of the last state.
-pub fn push_end_line(out: &mut Vec<u8>, end: &End, count: u64, pc: u32) -> Result<(), AllocError>
-    ensures { OnOk result (out.new.items ≡ out.old.items ++ end_line end.now count pc) }
+pub fn push_end_line(out: &mut Table, end: &End, count: u64, pc: u32) -> Result<(), Memory>
+    requires ready { IsReady out.old }
+    ensures ready { OnOk result (IsReady out.new) }
+    ensures text { OnOk result
+        (text_in out.new ≡ text_in out.old ++ end_line end.now count pc) }
 {
     push_line(
         out,
         &[
             b"end",
             end_kind(end).as_bytes(),
-            decimal_text(count).as_bytes(),
+            number_text(count).as_bytes(),
             b"",
             word_text(pc).as_bytes(),
             b"",
@@ -204,10 +282,12 @@ pub fn push_end_line(out: &mut Vec<u8>, end: &End, count: u64, pc: u32) -> Resul
 /// Adds the line of the registers.
 pub fn push_regs_line(
     alloc: Global,
-    out: &mut Vec<u8>,
+    out: &mut Table,
     registers: &[u32; 32],
-) -> Result<(), AllocError>
-    ensures { OnOk result (out.new.items ≡ out.old.items ++ regs_line registers.now) }
+) -> Result<(), Memory>
+    requires ready { IsReady out.old }
+    ensures ready { OnOk result (IsReady out.new) }
+    ensures text { OnOk result (text_in out.new ≡ text_in out.old ++ regs_line registers.now) }
 {
     let mut texts = Vec::new(alloc);
     push_registers(&mut texts, registers)?;

@@ -1,6 +1,7 @@
 //! Lines and reports that were worked by hand.
 
 use crate::{Refusal, RunEnd, Status, report_text, write_fault};
+use analysers::{Merged, Row, read_kind};
 use call_log::{Break, BreakKind, End};
 use elf_image::{ImageCause, ImageFault};
 use rec_format::{RecCause, RecFault};
@@ -149,6 +150,26 @@ fn broken_replays(rt: HostRuntime) -> Result<(), Fail> {
     Ok(())
 }
 
+/// The report of these rows, for the kinds of some words with a space between two.
+fn report_of(
+    alloc: Global,
+    words: &str,
+    rows: Vec<Seq<Row>>,
+    last: &RunEnd,
+) -> Result<Vec<u8>, Fail> {
+    let mut kinds = Vec::new(alloc);
+    for word in words.split(' ') {
+        kinds.push(read_kind(alloc, word)?.ok_or("no kind")?)?;
+    }
+    let merged = Merged {
+        rows: Seq::from_vec(rows),
+    };
+    if merged.rows.len() != kinds.len() {
+        return Err(Fail::from("rows of other kinds"));
+    }
+    Ok(report_text(alloc, &merged, &kinds, last)?)
+}
+
 #[test]
 fn report(rt: HostRuntime) -> Result<(), Fail> {
     let alloc = rt.alloc();
@@ -168,8 +189,32 @@ fn report(rt: HostRuntime) -> Result<(), Fail> {
         words: Seq::from_vec(vec![in alloc; 5, 0x5d]?),
         outcome: TracerEnd::LoadFault(16),
     };
-    let text = report_text(alloc, &[entry], &last)?;
+    let all = vec![in alloc; Row::Of(entry)]?;
+    let count = vec![in alloc; Row::Number(u64::MAX)]?;
+    let least = vec![in alloc; Row::Word(7)]?;
+    let hist = vec![in alloc;
+        Row::Bin {
+            value: 0x13000,
+            count: 1,
+        },
+        Row::Bin {
+            value: u32::MAX,
+            count: 10,
+        },
+    ]?;
+    let rows = vec![in alloc;
+        Seq::from_vec(all),
+        Seq::from_vec(count),
+        Seq::new(alloc),
+        Seq::from_vec(least),
+        Seq::from_vec(hist),
+    ]?;
+    let text = report_of(alloc, "all count first least=00 hist=0", rows, &last)?;
     let expected = "1,all,2,0,0x00010008,LoadFault 0x00000010,0x00000005 0x0000005d\n\
+                    2,count,,,,,18446744073709551615\n\
+                    4,least=00,,,,,0x00000007\n\
+                    5,hist=0,1,,,,0x00013000\n\
+                    5,hist=0,10,,,,0xffffffff\n\
                     end,exited,3,,0x0001000c,,0x00000005\n\
                     regs,x,,,,,x2=0x7fffffe0 x31=0x00000001\n";
     assert_eq!(rt; text.as_slice(), expected.as_bytes());

@@ -1,34 +1,54 @@
 //! The texts of commands: the report of a run, and what a check says.
 
-ghost use Rattle.std.specs.Prelude.{◌≡◌, ◌++◌, IfOk, OnOk};
-ghost use Rattle.report.specs.Report.{all_lines, report, checked_line, recorded_line};
+ghost use Rattle.std.specs.Prelude.{◌≡◌, ◌++◌, length, OnOk, IfOk};
+ghost use Rattle.report.specs.Report.{analyses_lines, report, checked_line, recorded_line};
+ghost use Rattle.report.specs.Table.{text_in, IsReady};
 
-use crate::lines::{end_kind, end_value, push_end_line, push_record_line, push_regs_line};
+use crate::lines::{end_kind, end_value, push_analysis, push_end_line, push_regs_line};
 use crate::run_end::RunEnd;
+use crate::table::{Table, new_table, text_of};
+use analysers::{Kind, Merged, Row};
 use rec_format::Recording;
-use sl_base::{Memory, decimal_text, word_text};
-use std::alloc::{AllocError, Global};
-use tracer_lang::Record;
+use sl_base::{Memory, Seq, decimal_text, word_text};
+use std::alloc::Global;
 
-/// Adds the lines of the analysis `all`.
-fn push_all_lines(alloc: Global, out: &mut Vec<u8>, records: &[Record]) -> Result<(), AllocError>
-    ensures { OnOk result (out.new.items ≡ out.old.items ++ all_lines 1 records.now) }
+/// Adds the lines of all analyses.
+fn push_analyses(
+    alloc: Global,
+    out: &mut Table,
+    kinds: &[Kind],
+    all: &[Seq<Row>],
+) -> Result<(), Memory>
+    requires ready { IsReady out.old }
+    requires each { length all.now ≡ length kinds.now }
+    ensures ready { OnOk result (IsReady out.new) }
+    ensures text { OnOk result
+        (text_in out.new ≡ text_in out.old ++ analyses_lines 1 kinds.now all.now) }
 {
-    for entry in records {
-        push_record_line(alloc, out, 1, "all", entry)?;
+    for (i, kind) in kinds.iter().enumerate() {
+        let position = i as u64 + 1;
+        push_analysis(alloc, out, position, kind.word.as_slice(), all[i].as_slice())?;
     }
     Ok(())
 }
 
-/// The report with the analysis `all`: a line for each of these records, and how the run ended.
-pub fn report_text(alloc: Global, records: &[Record], last: &RunEnd) -> Result<Vec<u8>, Memory>
-    ensures { IfOk result (λ text. text.items ≡ report (all_lines 1 records.now) last.now) }
+/// The report: the lines of each analysis in order, and how the run ended. The rows are those of
+/// the kinds.
+pub fn report_text(
+    alloc: Global,
+    merged: &Merged,
+    kinds: &[Kind],
+    last: &RunEnd,
+) -> Result<Vec<u8>, Memory>
+    requires { length merged.now.rows ≡ length kinds.now }
+    ensures { IfOk result (λ text. text.items
+        ≡ report (analyses_lines 1 kinds.now merged.now.rows) last.now) }
 {
-    let mut out = Vec::new(alloc);
-    push_all_lines(alloc, &mut out, records)?;
+    let mut out = new_table(alloc);
+    push_analyses(alloc, &mut out, kinds, merged.rows.as_slice())?;
     push_end_line(&mut out, &last.end, last.count, last.pc)?;
     push_regs_line(alloc, &mut out, &last.x)?;
-    Ok(out)
+    text_of(out)
 }
 
 /// What a check of a recording says: how many calls and checkpoints before the end it has, and the
