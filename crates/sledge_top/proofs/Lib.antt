@@ -3,3 +3,4 @@ mod Reports
 mod Arguments
 mod Recuts
 mod Recorded
+mod AnalysisWords

@@ -17,23 +17,27 @@ use Rattle.call_log.specs.declared.breaks.BreakKind.TheVariants as kind
 use Rattle.rec_format.specs.declared.recording.Recording.{Recording}
 use Rattle.rec_format.specs.Reading.{reading}
 use Rattle.rec_format.specs.Spelling.{spelling}
+use Rattle.tracer_lang.specs.declared.record.Record.{Record as LeftRecord}
 use Rattle.tracer_lang.specs.Tree.{ScriptTree}
 use Rattle.tracer_lang.specs.Firing.{records_at}
 use Rattle.tracer_read.specs.Scripts.{script_of_text}
 use Rattle.replay.specs.Opening.{opening}
 use Rattle.replay.specs.Run.{run_from}
 use Rattle.replay.specs.Breaks.{first_break}
+use Rattle.analysers.specs.declared.kind.Kind.{Kind}
+use Rattle.analysers.specs.Pieces.{rows_of}
 use Rattle.epoch_run.specs.Records.{records}
 use Rattle.epoch_run.specs.AtScript.{at_tree}
 use Rattle.report.specs.declared.run_end.RunEnd.{RunEnd}
 use Rattle.report.specs.declared.status.Refusal.{Refusal}
 use Rattle.report.specs.declared.status.Refusal.TheVariants as refusal
-use Rattle.report.specs.Report.{all_lines, report, checked_line, recorded_line}
+use Rattle.report.specs.Report.{analyses_lines, report, checked_line, recorded_line}
 use Rattle.call_recorder.specs.declared.source.ImageSource.{ImageSource}
 use Rattle.call_recorder.specs.Recorded.{IsRecorded}
 use Rattle.call_recorder.specs.Recut.{recut_of}
 use Rattle.cli_words.specs.Orders.{Order, TraceOptions, RecordOptions, Trace, TraceAt, Replay, Check, Record, Recut, Asm, Show, order_of}
 use Rattle.report.specs.declared.status.Status.{Status}
+use Rattle.sledge_top.specs.Kinds.{kinds_of}
 use Rattle.sledge_top.specs.Done.{Done, only_text, text_of}
 use Rattle.sledge_top.specs.Endings.{Ends, Says, Leaves, Answers}
 use Rattle.elf_image.specs.Written.{written}
@@ -111,11 +115,11 @@ abbrev pub replayed : Recording → State → List ℕ → Option Break → Resu
 replayed rec opened lines (Some first) = Err (broken_by first first.kind)
 replayed rec opened lines None = Ok (report lines (run_end rec (last_state rec opened)))
 
--- with the analysis `all` over what the tracers of a script leave
-unfoldable pub traced : Recording → ScriptTree → State → Result (List ℕ) Refusal
-traced rec script opened =
-    replayed rec opened (all_lines 1 (records rec (records_at script) opened))
-    (first_break rec opened)
+-- with analyses of what the tracers of a script leave
+unfoldable pub traced : Recording → ScriptTree → List Kind → State → Result (List ℕ) Refusal
+traced rec script kinds opened =
+    let left : List LeftRecord = records rec (records_at script) opened in
+    replayed rec opened (analyses_lines 1 kinds (rows_of kinds left)) (first_break rec opened)
 
 -- without an analysis
 unfoldable pub replayed_alone : Recording → State → Result (List ℕ) Refusal
@@ -139,24 +143,26 @@ script_in files image name = do
 
 -- ---- commands
 
--- the report of a recording with the tracers of a script
-abbrev pub traced_with : Recording → Image → ScriptTree → Result Done Refusal
-traced_with rec image script = do
-  text ← traced rec script (opening image rec.args)
+-- the report of a recording with the tracers of a script, and the analyses that words name
+abbrev pub traced_with : Recording → Image → ScriptTree → List (List ℕ) → Result Done Refusal
+traced_with rec image script words = do
+  kinds ← kinds_of words
+  text ← traced rec script kinds (opening image rec.args)
   Ok (only_text text)
 
--- `trace RECORDING SCRIPT`: the recording is read before the script
-abbrev pub trace_by : Files → List ℕ → List ℕ → Result Done Refusal
-trace_by files name script_name = do
+-- `trace RECORDING SCRIPT`: the recording is read before the script, and both before the words of
+-- analyses
+abbrev pub trace_by : Files → List ℕ → List ℕ → List (List ℕ) → Result Done Refusal
+trace_by files name script_name words = do
   both ← recorded_in files name
   script ← script_in files both.1 script_name
-  traced_with both.0 both.1 script
+  traced_with both.0 both.1 script words
 
 -- `trace RECORDING at HEX`
-abbrev pub trace_at : Files → List ℕ → ℕ → Result Done Refusal
-trace_at files name address = do
+abbrev pub trace_at : Files → List ℕ → ℕ → List (List ℕ) → Result Done Refusal
+trace_at files name address words = do
   both ← recorded_in files name
-  traced_with both.0 both.1 (at_tree address)
+  traced_with both.0 both.1 (at_tree address) words
 
 -- `replay RECORDING`
 abbrev pub replay : Files → List ℕ → Result Done Refusal
@@ -304,18 +310,10 @@ RecordsTo files name output options before now defined =
 
 -- ---- all commands
 
--- the analysis `all`, alone
-abbrev pub is_all : List (List ℕ) → Bool
-is_all (word ∷ []) = bytes_eq word (codes "all")
-is_all words = false
-
-abbrev pub is_plain_trace : TraceOptions → Bool
-is_plain_trace options = is_all options.analyses
-
 -- the rows that are built so far; words of the others name no command
 abbrev pub is_built : Order → Bool
-is_built (Trace recording script options) = is_plain_trace options
-is_built (TraceAt recording address options) = is_plain_trace options
+is_built (Trace recording script options) = true
+is_built (TraceAt recording address options) = true
 is_built (Replay recording) = true
 is_built (Check recording) = true
 is_built (Record image output options) = true
@@ -333,8 +331,10 @@ named_by words = option_and_then where_built (order_of words)
 
 -- what a command comes to that does not ask the world
 abbrev pub done_by : Files → Order → Result Done Refusal
-done_by files (Trace recording script options) = trace_by files recording script
-done_by files (TraceAt recording address options) = trace_at files recording address
+done_by files (Trace recording script options) =
+    trace_by files recording script options.analyses
+done_by files (TraceAt recording address options) =
+    trace_at files recording address options.analyses
 done_by files (Replay recording) = replay files recording
 done_by files (Check recording) = check files recording
 done_by files (Recut recording output every) = recut files recording output every
@@ -377,11 +377,12 @@ OutcomeAnswers words =
 
 -- ---- epochs
 
--- Two lists of words that name one recording and one address have one answer, whatever they say of
--- epochs, workers and analyses that are built.
+-- Two lists of words that name one recording, one address and the same analyses have one answer,
+-- whatever they say of epochs and workers.
 abbrev pub SameAnswer : List (List ℕ) → List (List ℕ) → Type 0
 SameAnswer first second =
     (files : Files) (recording : List ℕ) (address : ℕ) (m n : TraceOptions)
+    → m.analyses ≡ n.analyses
     → named_by first ≡ Some (TraceAt recording address m)
     → named_by second ≡ Some (TraceAt recording address n)
     → outcome first files ≡ outcome second files
@@ -390,6 +391,7 @@ SameAnswer first second =
 abbrev pub SameScriptAnswer : List (List ℕ) → List (List ℕ) → Type 0
 SameScriptAnswer first second =
     (files : Files) (recording script : List ℕ) (m n : TraceOptions)
+    → m.analyses ≡ n.analyses
     → named_by first ≡ Some (Trace recording script m)
     → named_by second ≡ Some (Trace recording script n)
     → outcome first files ≡ outcome second files

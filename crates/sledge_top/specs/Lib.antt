@@ -1,4 +1,5 @@
 pub mod Done
+pub mod Kinds
 pub mod Runs
 pub mod Show
 pub mod Answer

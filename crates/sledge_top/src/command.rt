@@ -6,7 +6,7 @@ ghost use Rattle.sl_base.specs.Written.{Adds, AddsPrefix};
 ghost use Rattle.report.specs.Status.{fault_line};
 ghost use Rattle.cli_words.specs.Orders.{Fits};
 ghost use Rattle.cli_words.specs.Views.{texts, words_view, trace_view, order_view};
-ghost use Rattle.sledge_top.specs.Answer.{is_all, is_plain_trace, where_built, named_by, asks_world, ComesTo, SameAnswer, SameScriptAnswer, OutcomeAnswers};
+ghost use Rattle.sledge_top.specs.Answer.{where_built, named_by, asks_world, ComesTo, SameAnswer, SameScriptAnswer, OutcomeAnswers};
 ghost use Rattle.sledge_top.specs.Endings.{IsSilent, Answers};
 ghost use Rattle.sledge_top.specs.Views.{ComesSo};
 
@@ -17,28 +17,11 @@ use crate::recording::record_image;
 use crate::recutting::recut;
 use crate::show::show;
 use crate::trace::{check, replay, trace_at, trace_by};
-use cli_words::{Order, TraceOptions, read_words};
+use cli_words::{Order, read_words};
 use report::{Refusal, Status, write_fault};
 use sl_base::{Gate, Refused, Sink, Store, World};
 use std::alloc::Global;
 use std::thread::Threads;
-
-/// Whether the analysis `all` is the only one.
-fn is_all(kinds: &[&str]) -> bool
-    ensures { result ≡ is_all (words_view kinds.now) }
-{
-    match kinds {
-        [kind] => *kind == "all",
-        _ => false,
-    }
-}
-
-/// Whether a trace has the analysis `all` alone.
-fn is_plain_trace(options: &TraceOptions<'_>) -> bool
-    ensures { result ≡ is_plain_trace (trace_view options.now) }
-{
-    is_all(&options.analyses)
-}
 
 /// Does a command but for its file and its text. Words of commands that are not built yet name
 /// none.
@@ -70,30 +53,12 @@ fn done_by<'a, R: Threads + Sync, S: Store, W: World, G: Gate>(
             recording,
             script,
             options,
-        } if is_plain_trace(options) => trace_by(
-            rt,
-            alloc,
-            recording,
-            script,
-            options.epochs,
-            options.workers,
-            store,
-            gate,
-        ),
+        } => trace_by(rt, alloc, recording, script, options, store, gate),
         Order::TraceAt {
             recording,
             address,
             options,
-        } if is_plain_trace(options) => trace_at(
-            rt,
-            alloc,
-            recording,
-            *address,
-            options.epochs,
-            options.workers,
-            store,
-            gate,
-        ),
+        } => trace_at(rt, alloc, recording, *address, options, store, gate),
         Order::Replay { recording } => replay(rt, alloc, recording, store, gate),
         Order::Check { recording } => check(alloc, recording, store),
         Order::Record {
@@ -208,7 +173,7 @@ pub fn sledge<R: Threads + Sync, S: Store, W: World, O: Sink, E: Sink, G: Gate>(
     status
 }
 
-/// Words that differ in `--workers` and `--epochs` alone have one answer, whatever the files are.
+/// Words that differ in `--workers` and `--epochs` alone, with the same analyses, have one answer, whatever the files are.
 pub fn same_answer()
     ensures at { (first second : List (List ℕ)) → SameAnswer first second }
     ensures script { (first second : List (List ℕ)) → SameScriptAnswer first second }

@@ -5,6 +5,7 @@ mod assemble;
 mod command;
 mod done;
 mod failure;
+mod kinds;
 mod recording;
 mod recutting;
 mod runs;

@@ -21,7 +21,7 @@ use elf_image::Image;
 use epoch_run::Plan;
 use rec_format::Recording;
 use report::Refusal;
-use sl_base::{Gate, Refused, Store};
+use sl_base::{Gate, Refused, Seq, Store};
 use std::alloc::Global;
 use std::thread::Threads;
 
@@ -39,7 +39,7 @@ fn unbroken<R: Threads + Sync, G: Gate>(
         (unless_broken (rec, image) (first_break rec (opening image rec.args))) }
     ensures later { IfErr result IsLaterFault }
 {
-    let plan = plan_of(alloc, rec, image, no_tracers(alloc), None)?;
+    let plan = plan_of(alloc, rec, image, no_tracers(alloc), Seq::new(alloc), None)?;
     let _ = replay_plan(rt, alloc, &plan, 1, gate)?;
     let Plan {
         image,

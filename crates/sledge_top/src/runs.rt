@@ -6,16 +6,16 @@ ghost use Rattle.epoch_core.specs.Posts.{Posted};
 ghost use Rattle.epoch_run.specs.Plans.{values_of};
 ghost use Rattle.sledge_top.specs.Runs.{run_in};
 
+use analysers::Merged;
 use call_log::Break;
 use epoch_core::{Post, Runs};
 use epoch_run::{Plan, PlanRuns, Worker, values_are_the_run};
 use epoch_worker::{Epochs, run_all};
 use ordered_merge::{merge, merged_means};
-use sl_base::{Brand, Gate, Memory, Refused, Seq, Steps};
+use sl_base::{Brand, Gate, Memory, Refused, Steps};
 use std::alloc::Global;
 use std::sync::ledger::{Blank, Ledger};
 use std::thread::Threads;
-use tracer_lang::Record;
 
 /// The epochs of a plan, which each worker runs with a machine and a memory of its own.
 #[derive(Drop)]
@@ -89,20 +89,21 @@ fn posts_of<R: Threads + Sync, G: Gate>(
     run_all(rt, alloc, &epochs, count, workers, gate)
 }
 
-/// What tracers leave on the run of a plan's recording, or its first break. Each epoch is replayed
-/// by itself, by one of so many workers in threads of their own, and the posts are merged.
+/// What the analyses of a plan give of what its tracers leave on the run of its recording, or the
+/// run's first break. Each epoch is replayed by itself, by one of so many workers in threads of
+/// their own, and the posts are merged.
 pub fn run_plan<R: Threads + Sync, G: Gate>(
     rt: &R,
     alloc: Global,
     plan: &Plan,
     workers: u32,
     gate: &G,
-) -> Result<Seq<Record>, Refused<Break>>
+) -> Result<Merged, Refused<Break>>
     ensures { Tells result (run_in plan.now) }
 {
     values_are_the_run();
     merged_means();
     let count = count_of(plan);
     let posts = posts_of(rt, alloc, plan, count, workers, gate)?;
-    merge(alloc, count, posts)
+    merge(alloc, plan.kinds.as_slice(), count, posts)
 }

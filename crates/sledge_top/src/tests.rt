@@ -1,5 +1,6 @@
 //! Commands over stores in memory, with outputs that were worked by hand.
 
+mod analyses;
 mod assembled;
 mod recorded;
 mod recordings;

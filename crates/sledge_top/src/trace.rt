@@ -8,17 +8,22 @@ ghost use Rattle.rec_format.specs.Rules.{IsRecordingValue};
 ghost use Rattle.tracer_lang.specs.Script.{tree_of};
 ghost use Rattle.replay.specs.Opening.{opening};
 ghost use Rattle.checkpoints.specs.RecordedRun.{opened_of};
-ghost use Rattle.sledge_top.specs.Answer.{recording_of, image_in, image_of, recorded, recorded_in, refused_by, broken_by, traced, replayed_alone, script_of, script_in, trace_by, trace_at, replay, check};
+ghost use Rattle.cli_words.specs.Orders.{FitsTrace};
+ghost use Rattle.cli_words.specs.Views.{words_view, trace_view};
+ghost use Rattle.sledge_top.specs.Answer.{recording_of, image_in, image_of, recorded, recorded_in, refused_by, broken_by, traced, traced_with, replayed_alone, script_of, script_in, trace_by, trace_at, replay, check};
 ghost use Rattle.sledge_top.specs.Runs.{run_in};
 ghost use Rattle.sledge_top.specs.Endings.{IsLater, IsLaterFault};
 ghost use Rattle.sledge_top.specs.Views.{done_view, Comes, IsLaterFailure};
 
 use crate::done::Done;
 use crate::failure::Failure;
+use crate::kinds::kinds_of;
 use crate::runs::run_plan;
 use crate::store::file_of;
+use analysers::{Kind, Merged};
 use call_log::{Break, BreakKind};
 use checkpoints::Checkpoints;
+use cli_words::TraceOptions;
 use elf_image::{Image, ImageFault, flat_image, read_image};
 use epoch_cut::cut;
 use epoch_run::{Plan, at_script, runs_end_as_recorded};
@@ -29,7 +34,7 @@ use sl_base::{Gate, Memory, Refused, Seq, Store};
 use std::alloc::Global;
 use std::thread::Threads;
 use tracepoints::Points;
-use tracer_lang::{Record, Script};
+use tracer_lang::Script;
 use tracer_read::read_script;
 
 /// The most bytes of a recording.
@@ -93,26 +98,27 @@ fn broken_by(first: Break) -> Refusal
     }
 }
 
-/// What tracers leave on the replay of a plan, or how the command is refused.
+/// What the analyses of a plan give of what its tracers leave on its replay, or how the command is
+/// refused.
 pub fn replay_plan<R: Threads + Sync, G: Gate>(
     rt: &R,
     alloc: Global,
     plan: &Plan,
     workers: u32,
     gate: &G,
-) -> Result<Seq<Record>, Refused<Refusal>>
-    ensures records { Gives (λ records. records) result
+) -> Result<Merged, Refused<Refusal>>
+    ensures merged { Gives (λ merged. merged) result
         (refused_by (λ first. broken_by first first.kind) (run_in plan.now)) }
     ensures later { IfErr result IsLaterFault }
 {
     match run_plan(rt, alloc, plan, workers, gate) {
-        Ok(records) => Ok(records),
+        Ok(merged) => Ok(merged),
         Err(Refused::Fault(first)) => Err(Refused::Fault(broken_by(first))),
         Err(Refused::Memory) => Err(Refused::Memory),
     }
 }
 
-/// The report of a plan, with what its tracers leave.
+/// The report of a plan, with its analyses of what its tracers leave.
 fn traced<R: Threads + Sync, G: Gate>(
     rt: &R,
     alloc: Global,
@@ -121,30 +127,31 @@ fn traced<R: Threads + Sync, G: Gate>(
     gate: &G,
 ) -> Result<Vec<u8>, Refused<Refusal>>
     ensures text { Gives (λ text. text.items) result (traced plan.now.checkpoints.rec
-        (tree_of plan.now.script) (opened_of plan.now.checkpoints)) }
+        (tree_of plan.now.script) plan.now.kinds (opened_of plan.now.checkpoints)) }
     ensures later { IfErr result IsLaterFault }
 {
     runs_end_as_recorded();
-    let records = replay_plan(rt, alloc, plan, workers, gate)?;
+    let merged = replay_plan(rt, alloc, plan, workers, gate)?;
     let last = recorded_end(&plan.checkpoints.rec);
-    Ok(report_text(alloc, records.as_slice(), &last)?)
+    Ok(report_text(alloc, &merged, plan.kinds.as_slice(), &last)?)
 }
 
-/// The report of a plan without its tracers.
+/// The report of a plan that has no analyses.
 fn replayed_alone<R: Threads + Sync, G: Gate>(
     rt: &R,
     alloc: Global,
     plan: &Plan,
     gate: &G,
 ) -> Result<Vec<u8>, Refused<Refusal>>
+    requires { plan.now.kinds ≡ [] }
     ensures text { Gives (λ text. text.items) result
         (replayed_alone plan.now.checkpoints.rec (opened_of plan.now.checkpoints)) }
     ensures later { IfErr result IsLaterFault }
 {
     runs_end_as_recorded();
-    let _ = replay_plan(rt, alloc, plan, 1, gate)?;
+    let merged = replay_plan(rt, alloc, plan, 1, gate)?;
     let last = recorded_end(&plan.checkpoints.rec);
-    Ok(report_text(alloc, &[], &last)?)
+    Ok(report_text(alloc, &merged, plan.kinds.as_slice(), &last)?)
 }
 
 /// The checkpoints of a recording, from the opening state of its image.
@@ -159,13 +166,14 @@ fn checkpoints_of(alloc: Global, rec: Recording, image: &Image) -> Result<Checkp
     Checkpoints::new(alloc, rec, machine, frames)
 }
 
-/// A recording and its image with a script, cut into at most so many epochs, or into one for each
-/// interval between checkpoints.
+/// A recording and its image with a script and analyses, cut into at most so many epochs, or into
+/// one for each interval between checkpoints.
 pub fn plan_of(
     alloc: Global,
     rec: Recording,
     image: Image,
     script: Script,
+    kinds: Seq<Kind>,
     epochs: Option<u32>,
 ) -> Result<Plan, Memory>
     requires rules { IsRecordingValue rec }
@@ -175,6 +183,7 @@ pub fn plan_of(
     ensures opened { IfOk result (λ plan. opened_of plan.checkpoints ≡ opening image rec.args) }
     ensures image { IfOk result (λ plan. plan.image ≡ image) }
     ensures script { IfOk result (λ plan. tree_of plan.script ≡ tree_of script) }
+    ensures kinds { IfOk result (λ plan. plan.kinds ≡ kinds) }
 {
     let checkpoints = checkpoints_of(alloc, rec, &image)?;
     let segments = checkpoints.segments();
@@ -186,16 +195,18 @@ pub fn plan_of(
         cutting,
         script,
         points,
+        kinds,
     })
 }
 
-/// The report of a recording and its image, with what the tracers of a script leave.
+/// The report of a recording and its image, with analyses of what the tracers of a script leave.
 fn traced_from<R: Threads + Sync, G: Gate>(
     rt: &R,
     alloc: Global,
     rec: Recording,
     image: Image,
     script: Script,
+    kinds: Seq<Kind>,
     epochs: Option<u32>,
     workers: u32,
     gate: &G,
@@ -204,11 +215,35 @@ fn traced_from<R: Threads + Sync, G: Gate>(
     requires image { IsLoadable image }
     requires epochs { IfSome epochs (λ n. (1 ≤ n) × (n ≤ 4096)) }
     ensures text { Gives (λ text. text.items) result
-        (traced rec (tree_of script) (opening image rec.args)) }
+        (traced rec (tree_of script) kinds (opening image rec.args)) }
     ensures later { IfErr result IsLaterFault }
 {
-    let plan = plan_of(alloc, rec, image, script, epochs)?;
+    let plan = plan_of(alloc, rec, image, script, kinds, epochs)?;
     traced(rt, alloc, &plan, workers, gate)
+}
+
+/// The report of a recording and its image, with the analyses that words name of what the tracers
+/// of a script leave.
+fn traced_with<'a, R: Threads + Sync, G: Gate>(
+    rt: &R,
+    alloc: Global,
+    rec: Recording,
+    image: Image,
+    script: Script,
+    options: &TraceOptions<'_>,
+    gate: &G,
+) -> Result<Done<'a>, Refused<Refusal>>
+    requires rules { IsRecordingValue rec }
+    requires image { IsLoadable image }
+    requires options { FitsTrace (trace_view options.now) }
+    ensures value { Gives done_view result
+        (traced_with rec image (tree_of script) (words_view options.now.analyses.items)) }
+    ensures later { IfErr result IsLaterFault }
+{
+    let kinds = kinds_of(alloc, &options.analyses)?;
+    let (epochs, workers) = (options.epochs, options.workers);
+    let text = traced_from(rt, alloc, rec, image, script, kinds, epochs, workers, gate)?;
+    Ok(Done { text, put: None })
 }
 
 /// A script without tracers.
@@ -234,7 +269,7 @@ fn replayed_from<R: Threads + Sync, G: Gate>(
         (replayed_alone rec (opening image rec.args)) }
     ensures later { IfErr result IsLaterFault }
 {
-    let plan = plan_of(alloc, rec, image, no_tracers(alloc), None)?;
+    let plan = plan_of(alloc, rec, image, no_tracers(alloc), Seq::new(alloc), None)?;
     replayed_alone(rt, alloc, &plan, gate)
 }
 
@@ -301,21 +336,20 @@ fn script_in<S: Store>(
     Ok(script_of(alloc, image, &text)?)
 }
 
-/// `trace RECORDING SCRIPT`: the report of a recording, with what the tracers of a script leave. Its
-/// epochs are run by so many workers.
+/// `trace RECORDING SCRIPT`: the report of a recording, with the analyses that words name of what
+/// the tracers of a script leave. Its epochs are run by so many workers.
 pub fn trace_by<'a, R: Threads + Sync, S: Store, G: Gate>(
     rt: &R,
     alloc: Global,
     name: &str,
     script: &str,
-    epochs: Option<u32>,
-    workers: u32,
+    options: &TraceOptions<'_>,
     store: &mut S,
     gate: &G,
 ) -> Result<Done<'a>, Failure>
-    requires epochs { IfSome epochs (λ n. (1 ≤ n) × (n ≤ 4096)) }
-    ensures answer { IfSome (S.told store.old) (λ files.
-        Comes done_view result (trace_by files name.now script.now)) }
+    requires { FitsTrace (trace_view options.now) }
+    ensures answer { IfSome (S.told store.old) (λ files. Comes done_view result
+        (trace_by files name.now script.now (words_view options.now.analyses.items))) }
     ensures failed { IsErrOf result Failure.StoreFault
         → Rose (S.faults store.old) (S.faults store.new) }
     ensures later { IfErr result IsLaterFailure }
@@ -324,25 +358,23 @@ pub fn trace_by<'a, R: Threads + Sync, S: Store, G: Gate>(
 {
     let (rec, image) = recorded_in(alloc, name, store)?;
     let script = script_in(alloc, &image, script, store)?;
-    let text = traced_from(rt, alloc, rec, image, script, epochs, workers, gate)?;
-    Ok(Done { text, put: None })
+    Ok(traced_with(rt, alloc, rec, image, script, options, gate)?)
 }
 
 /// `trace RECORDING at HEX`: the report of a recording, with register a0 recorded wherever pc is at
-/// the address. Its epochs are run by so many workers.
+/// the address, and the analyses that words name. Its epochs are run by so many workers.
 pub fn trace_at<'a, R: Threads + Sync, S: Store, G: Gate>(
     rt: &R,
     alloc: Global,
     name: &str,
     address: u32,
-    epochs: Option<u32>,
-    workers: u32,
+    options: &TraceOptions<'_>,
     store: &mut S,
     gate: &G,
 ) -> Result<Done<'a>, Failure>
-    requires epochs { IfSome epochs (λ n. (1 ≤ n) × (n ≤ 4096)) }
-    ensures answer { IfSome (S.told store.old) (λ files.
-        Comes done_view result (trace_at files name.now address)) }
+    requires { FitsTrace (trace_view options.now) }
+    ensures answer { IfSome (S.told store.old) (λ files. Comes done_view result
+        (trace_at files name.now address (words_view options.now.analyses.items))) }
     ensures failed { IsErrOf result Failure.StoreFault
         → Rose (S.faults store.old) (S.faults store.new) }
     ensures later { IfErr result IsLaterFailure }
@@ -351,8 +383,7 @@ pub fn trace_at<'a, R: Threads + Sync, S: Store, G: Gate>(
 {
     let (rec, image) = recorded_in(alloc, name, store)?;
     let script = at_script(alloc, address)?;
-    let text = traced_from(rt, alloc, rec, image, script, epochs, workers, gate)?;
-    Ok(Done { text, put: None })
+    Ok(traced_with(rt, alloc, rec, image, script, options, gate)?)
 }
 
 /// `replay RECORDING`: the report of a recording, without an analysis.

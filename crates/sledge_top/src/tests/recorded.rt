@@ -150,12 +150,16 @@ record p.elf p.rec => 0 recorded 22 exited 0x00000000|
 check p.rec => 0 checked 4 calls, 0 checkpoints, end 22|
 replay p.rec => 0 end,exited,22,,0x0001003c,,0x00000000|\
 regs,x,,,,,x1=0x00010030 x2=0x7fffffe0 x5=0x00001000 x11=0x00011000 x12=0x00000003 x17=0x0000005d|
+trace p.rec s.txt --analyse hist=0 => 0 1,hist=0,1,,,,0x00013000|end,exited,22,,0x0001003c,,0x00000000|\
+regs,x,,,,,x1=0x00010030 x2=0x7fffffe0 x5=0x00001000 x11=0x00011000 x12=0x00000003 x17=0x0000005d|
 ";
 
 #[test]
 fn small_library(rt: HostRuntime) -> Result<(), Fail> {
     let alloc = rt.alloc();
-    let mut store = store_with(alloc, &[("p.s", LIBRARY.as_bytes())], &[])?;
+    let script: &[u8] = b"(at (enter put) (emit (reg 10)))";
+    let files = [("p.s", LIBRARY.as_bytes()), ("s.txt", script)];
+    let mut store = store_with(alloc, &files, &[])?;
     let mut replies = Vec::new(alloc);
     replies.push(Reply {
         result: 3,

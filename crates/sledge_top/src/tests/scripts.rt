@@ -12,7 +12,7 @@ use std::thread::Threads;
 
 /// The number and both outputs of a command over a recording `a.rec` and a script `s.txt`, as one
 /// text.
-fn told<R: Threads + Sync>(
+pub fn told<R: Threads + Sync>(
     rt: &R,
     alloc: Global,
     bytes: &[u8],
@@ -89,7 +89,7 @@ const EXITS_ROWS: &str = "\
 ";
 
 /// Stores 0x01020304 at 0x11005 and exits, with a checkpoint behind each instruction.
-const STORES: &str = "\
+pub const STORES: &str = "\
 words 1 0 90 464c457f 00010101 0 0 00f30002 1 10000 34 0 0 00200034 2 0
 words 1 74 10000 0 1c 1c 5 1 1 90 11000 0 0 10 6 1
 words 000112b7 00028293 01020337 30430313 0062a2a3 05d00893 73 0 0 6
@@ -104,7 +104,7 @@ words 0 0
 at 7 1001c 0 21=12000 5=11000 6=1020304 11=5d
 ";
 
-const STORES_END: &str = "\
+pub const STORES_END: &str = "\
 end,exited,7,,0x0001001c,,0x00000000
 regs,x,,,,,x2=0x7fffffe0 x5=0x00011000 x6=0x01020304 x17=0x0000005d
 ";

@@ -57,7 +57,7 @@ regs,x,,,,,x2=0x7fffffd0 x10=0x7ffffff0 x17=0x0000005d
 ";
 
 /// With a recorded call that it does not make.
-const UNMADE_CALL: &str = "\
+pub const UNMADE_CALL: &str = "\
 words 0 10000 c 00500513 05d00893 73 0 1 116 0 0 0 0 0 0 0 0 0
 words 0 5
 at 3 1000c 0 a=5 11=5d

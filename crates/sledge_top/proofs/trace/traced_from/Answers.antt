@@ -1,6 +1,7 @@
-use Rattle.std.proofs.Common.{ap, subst, ◌∙◌}
+use Rattle.std.proofs.Common.{List, ap, subst, ◌∙◌}
 use Rattle.checkpoints.specs.RecordedRun.{opened_of}
 use Rattle.sl_base.specs.Refusals.{Gives}
+use Rattle.analysers.specs.declared.kind.Kind.{Kind}
 use Rattle.tracer_lang.specs.Tree.{ScriptTree}
 use Rattle.tracer_lang.specs.Script.{tree_of}
 use Rattle.sledge_top.specs.Answer.{traced}
@@ -10,7 +11,8 @@ pub returns-clause-text : goal.returns-clause-text
 returns-clause-text g c =
     let plan = c.in_ok-plan.plan in
     let known = c.in_ok-plan.ensures in
-    let same = ap (λ rec. traced rec (tree_of plan.script) (opened_of plan.checkpoints)) known.recording
-    ∙ ap (λ (script : ScriptTree). traced c.args.rec script (opened_of plan.checkpoints)) known.script
-    ∙ ap (traced c.args.rec (tree_of c.args.script)) known.opened in
+    let same = ap (λ rec. traced rec (tree_of plan.script) plan.kinds (opened_of plan.checkpoints)) known.recording
+    ∙ ap (λ (script : ScriptTree). traced c.args.rec script plan.kinds (opened_of plan.checkpoints)) known.script
+    ∙ ap (λ (kinds : List Kind). traced c.args.rec (tree_of c.args.script) kinds (opened_of plan.checkpoints)) known.kinds
+    ∙ ap (traced c.args.rec (tree_of c.args.script) c.args.kinds) known.opened in
     subst (Gives (λ text. text.items) c.traced.result) same c.traced.ensures.text
