@@ -1,5 +1,6 @@
 -- Words of analyses, as the code reads them one after the other.
 use Rattle.std.proofs.Common.{◌≡◌, ℕ, ◌+◌, ◌<◌, ◌≤◌, List, [], ◌∷◌, ◌++◌, length, map, drop, get_or, Option, Some, None, Result, Ok, Err, Bor, refl, sym, ap, subst, ◌∙◌, append_assoc, append-nil, arith}
+use Rattle.std.specs.Prelude.{MatchOption}
 use Rattle.std.proofs.lemmas.List.{drop_more}
 use Rattle.analysers.specs.declared.kind.Kind.{Kind}
 use Rattle.analysers.specs.declared.kind.KindOf.{KindOf}
@@ -7,6 +8,7 @@ use Rattle.analysers.specs.Kinds.{kind_of}
 use Rattle.cli_words.specs.Views.{words_view}
 use Rattle.report.specs.declared.status.Refusal.{Refusal}
 use Rattle.report.specs.declared.status.Refusal.TheVariants as refusal
+use Rattle.sledge_top.proofs.KindCodes.{reads_once}
 use Rattle.sledge_top.specs.Kinds.{kind_with, kind_named, before, kinds_from}
 
 -- some kinds in front of what further words come to
@@ -47,10 +49,24 @@ stops_at kinds words i position d within is =
 
 -- ---- the kind of a word
 
+abbrev made_of : (word : List ℕ) (what : KindOf) → kind_of word ≡ Some what → Kind
+made_of word what reads = record { word = word; what = what; reads = reads }
+
+-- two analyses with one word that say the same are one
+made_so : (word : List ℕ) (what : KindOf) (reads : kind_of word ≡ Some what) (other : List ℕ) (says : KindOf) (so : kind_of other ≡ Some says)
+    → word ≡ other → what ≡ says → made_of word what reads ≡ made_of other says so
+made_so word what reads other says so same what_is =
+    let Whole : (List ℕ × KindOf) → Type 0 = λ p. (r : kind_of p.0 ≡ Some p.1) → made_of word what reads ≡ made_of p.0 p.1 r in
+    let here : Whole (word, what) = λ r. ap (made_of word what) (reads_once word what reads r) in
+    let pair : ◌≡◌ {A = List ℕ × KindOf} (word, what) (other, says) = cc in
+    subst Whole pair here so
+
 some_with : (word : List ℕ) (o : Option KindOf) (is : kind_of word ≡ o) (kind : Kind)
     → kind.word ≡ word → o ≡ Some kind.what → kind_with word o is ≡ Some kind
 some_with word None is kind same what = absurd cc
-some_with word (Some found) is kind same what = ?
+some_with word (Some found) is kind same what =
+    let found_is : found ≡ kind.what = cc in
+    ap Some (made_so word found is kind.word kind.what kind.reads (sym same) found_is)
 
 pub names_it : (word : List ℕ) (kind : Kind) → kind.word ≡ word → kind_named word ≡ Some kind
 names_it word kind same = some_with word (kind_of word) refl kind same (ap kind_of (sym same) ∙ kind.reads)
@@ -61,3 +77,8 @@ none_with word (Some found) is none = absurd cc
 
 pub names_none : (word : List ℕ) → kind_of word ≡ None → kind_named word ≡ None
 names_none word none = none_with word (kind_of word) refl none
+
+pub names_found : (word : List ℕ) (found : Option Kind) (kind : Kind) → found ≡ Some kind
+    → MatchOption found (kind_of word ≡ None) (λ k. k.word ≡ word) → kind_named word ≡ Some kind
+names_found word found kind is so =
+    names_it word kind (subst (λ o. MatchOption o (kind_of word ≡ None) (λ k. k.word ≡ word)) is so)

@@ -3,4 +3,6 @@ mod Reports
 mod Arguments
 mod Recuts
 mod Recorded
+mod GeneratedRuns
+mod KindCodes
 mod AnalysisWords

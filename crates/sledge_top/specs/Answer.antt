@@ -1,7 +1,7 @@
 -- What a command comes to, from its words and the files: what it does, or why it is refused. What
 -- the command that records comes to depends on the world too.
 use Rattle.std.specs.Prelude.{◌≡◌, ◌==◌, ◌&&◌, Bool, true, false, ℕ, List, [], ◌∷◌, ◌++◌, length, codes, decimal, Option, Some, None, Result, Ok, Err, nat_lt, if◌then◌else◌}
-use Rattle.std.specs.Option.{option_and_then, unwrap_or}
+use Rattle.std.specs.Option.{unwrap_or}
 use Rattle.std.specs.Str.{bytes_eq}
 use Rattle.std.specs.FinMap.{get}
 use Rattle.sl_base.specs.Files.{Files}
@@ -35,8 +35,10 @@ use Rattle.report.specs.Report.{analyses_lines, report, checked_line, recorded_l
 use Rattle.call_recorder.specs.declared.source.ImageSource.{ImageSource}
 use Rattle.call_recorder.specs.Recorded.{IsRecorded}
 use Rattle.call_recorder.specs.Recut.{recut_of}
-use Rattle.cli_words.specs.Orders.{Order, TraceOptions, RecordOptions, Trace, TraceAt, Replay, Check, Record, Recut, Asm, Show, order_of}
+use Rattle.cli_words.specs.Orders.{Order, TraceOptions, RecordOptions, Trace, TraceAt, Replay, Check, Record, Recut, Asm, Show, Gen, order_of}
 use Rattle.report.specs.declared.status.Status.{Status}
+use Rattle.workload.specs.Source.{source_text}
+use Rattle.workload.specs.Generated.{IsRecordedRun}
 use Rattle.sledge_top.specs.Kinds.{kinds_of}
 use Rattle.sledge_top.specs.Done.{Done, only_text, text_of}
 use Rattle.sledge_top.specs.Endings.{Ends, Says, Leaves, Answers}
@@ -308,28 +310,36 @@ abbrev pub RecordsTo :
 RecordsTo files name output options before now defined =
     RecordsFile (file_of files name IMAGE_LIMIT) output options before now defined
 
+-- ---- generated programs
+
+-- the tracer that runs on them: it emits each sum before it is stored
+abbrev pub GENERATED_SCRIPT : List ℕ
+GENERATED_SCRIPT = codes "(at (enter mark) (emit (reg 7)))"
+
+-- the words of their analyses
+abbrev pub generated_words : List (List ℕ)
+generated_words = codes "count" ∷ codes "sum=0" ∷ codes "least=0" ∷ codes "greatest=0" ∷ []
+
+-- the report of a program with its recording
+unfoldable pub traced_generated : Image → Recording → Result Done Refusal
+traced_generated image rec = do
+  script ← script_of image GENERATED_SCRIPT
+  traced_with rec image script generated_words
+
+-- the report of a recording of an image's run, or why there is no image
+unfoldable pub TracesRun : Result Image Refusal → ℕ → Result Done Refusal → Type 0
+TracesRun (Err why) size defined = defined ≡ Err why
+TracesRun (Ok image) size defined =
+    (rec : Recording) × IsRecordedRun image size rec × (defined ≡ traced_generated image rec)
+
+-- `gen SEED SIZE`
+abbrev pub GeneratesTo : ℕ → ℕ → Result Done Refusal → Type 0
+GeneratesTo seed size defined =
+    TracesRun (image_of_source (source_text seed size)) size defined
+
 -- ---- all commands
 
--- the rows that are built so far; words of the others name no command
-abbrev pub is_built : Order → Bool
-is_built (Trace recording script options) = true
-is_built (TraceAt recording address options) = true
-is_built (Replay recording) = true
-is_built (Check recording) = true
-is_built (Record image output options) = true
-is_built (Recut recording output every) = true
-is_built (Show image address lines flat) = true
-is_built (Asm source output) = true
-is_built other = false
-
-abbrev pub where_built : Order → Option Order
-where_built order = if is_built order then Some order else None
-
--- the command that words name
-abbrev pub named_by : List (List ℕ) → Option Order
-named_by words = option_and_then where_built (order_of words)
-
--- what a command comes to that does not ask the world
+-- what a command comes to that does not record a run
 abbrev pub done_by : Files → Order → Result Done Refusal
 done_by files (Trace recording script options) =
     trace_by files recording script options.analyses
@@ -346,9 +356,15 @@ abbrev pub ordered : Files → Option Order → Result Done Refusal
 ordered files None = Err refusal.Usage
 ordered files (Some order) = done_by files order
 
--- what words come to that name no command which asks the world
+-- what words come to that name no command which records a run
 abbrev pub outcome : List (List ℕ) → Files → Result Done Refusal
-outcome words files = ordered files (named_by words)
+outcome words files = ordered files (order_of words)
+
+-- the commands that record a run, one of a program of the user's and one of a generated program
+abbrev pub records_a_run : Option Order → Bool
+records_a_run (Some (Record image output options)) = true
+records_a_run (Some (Gen seed size)) = true
+records_a_run other = false
 
 -- the one command that asks the world
 abbrev pub asks_world : Option Order → Bool
@@ -356,21 +372,24 @@ asks_world (Some (Record image output options)) = true
 asks_world other = false
 
 -- What a command comes to, over a world that told these replies before and tells these now: every
--- command but the one that records comes to its outcome, and the world is not asked.
+-- command but those that record a run comes to its outcome, and the world is asked by the one that
+-- records a program of the user's alone.
 abbrev pub ComesTo :
     Files → Option Order
     → Option (List Reply) → Option (List Reply) → Result Done Refusal → Type 0
 ComesTo files (Some (Record image output options)) before now defined =
     RecordsTo files image output options before now defined
+ComesTo files (Some (Gen seed size)) before now defined =
+    GeneratesTo seed size defined × (now ≡ before)
 ComesTo files named before now defined = (defined ≡ ordered files named) × (now ≡ before)
 
--- A command that does not ask the world ends as its outcome, says it and leaves the files so.
+-- A command that does not record a run ends as its outcome, says it and leaves the files so.
 abbrev pub OutcomeAnswers : List (List ℕ) → Type 0
 OutcomeAnswers words =
     (files : Files) (before now : Option (List Reply)) (status : Status)
     (new : Option Files) (said says : Option (List ℕ))
-    → asks_world (named_by words) ≡ false
-    → Answers (ComesTo files (named_by words) before now) status files new said says
+    → records_a_run (order_of words) ≡ false
+    → Answers (ComesTo files (order_of words) before now) status files new said says
     → Ends status (outcome words files)
     × Says status said says (text_of (outcome words files))
     × Leaves status files new (outcome words files)
@@ -383,8 +402,8 @@ abbrev pub SameAnswer : List (List ℕ) → List (List ℕ) → Type 0
 SameAnswer first second =
     (files : Files) (recording : List ℕ) (address : ℕ) (m n : TraceOptions)
     → m.analyses ≡ n.analyses
-    → named_by first ≡ Some (TraceAt recording address m)
-    → named_by second ≡ Some (TraceAt recording address n)
+    → order_of first ≡ Some (TraceAt recording address m)
+    → order_of second ≡ Some (TraceAt recording address n)
     → outcome first files ≡ outcome second files
 
 -- and so do two that name one recording and one script
@@ -392,6 +411,6 @@ abbrev pub SameScriptAnswer : List (List ℕ) → List (List ℕ) → Type 0
 SameScriptAnswer first second =
     (files : Files) (recording script : List ℕ) (m n : TraceOptions)
     → m.analyses ≡ n.analyses
-    → named_by first ≡ Some (Trace recording script m)
-    → named_by second ≡ Some (Trace recording script n)
+    → order_of first ≡ Some (Trace recording script m)
+    → order_of second ≡ Some (Trace recording script n)
     → outcome first files ≡ outcome second files

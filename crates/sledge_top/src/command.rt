@@ -1,18 +1,19 @@
 //! The commands.
 
-ghost use Rattle.std.specs.Prelude.{◌≡◌, ◌≤◌, ◌⊎◌, List, ℕ, IfSome, None, IsErrOf, false};
+ghost use Rattle.std.specs.Prelude.{◌≡◌, ◌≤◌, ◌⊎◌, List, ℕ, IfErr, IfSome, Some, None, IsErrOf, false};
 ghost use Rattle.sl_base.specs.Faults.{Rose};
 ghost use Rattle.sl_base.specs.Written.{Adds, AddsPrefix};
 ghost use Rattle.report.specs.Status.{fault_line};
-ghost use Rattle.cli_words.specs.Orders.{Fits};
-ghost use Rattle.cli_words.specs.Views.{texts, words_view, trace_view, order_view};
-ghost use Rattle.sledge_top.specs.Answer.{where_built, named_by, asks_world, ComesTo, SameAnswer, SameScriptAnswer, OutcomeAnswers};
+ghost use Rattle.cli_words.specs.Orders.{order_of, Fits};
+ghost use Rattle.cli_words.specs.Views.{texts, order_view};
+ghost use Rattle.sledge_top.specs.Answer.{asks_world, ComesTo, SameAnswer, SameScriptAnswer, OutcomeAnswers};
 ghost use Rattle.sledge_top.specs.Endings.{IsSilent, Answers};
-ghost use Rattle.sledge_top.specs.Views.{ComesSo};
+ghost use Rattle.sledge_top.specs.Views.{ComesSo, IsLaterFailure};
 
 use crate::assemble::asm;
 use crate::done::{Done, finish};
 use crate::failure::Failure;
+use crate::generated::generate_and_trace;
 use crate::recording::record_image;
 use crate::recutting::recut;
 use crate::show::show;
@@ -23,8 +24,7 @@ use sl_base::{Gate, Refused, Sink, Store, World};
 use std::alloc::Global;
 use std::thread::Threads;
 
-/// Does a command but for its file and its text. Words of commands that are not built yet name
-/// none.
+/// Does a command but for its file and its text.
 fn done_by<'a, R: Threads + Sync, S: Store, W: World, G: Gate>(
     rt: &R,
     alloc: Global,
@@ -35,17 +35,14 @@ fn done_by<'a, R: Threads + Sync, S: Store, W: World, G: Gate>(
 ) -> Result<Done<'a>, Failure>
     requires { Fits (order_view order.now) }
     ensures answer { IfSome (S.told store.old) (λ files.
-        ComesSo (ComesTo files (where_built (order_view order.now))
+        ComesSo (ComesTo files (Some (order_view order.now))
         (W.replies world.old) (W.replies world.new)) result) }
-    ensures usage { IsErrOf result (Failure.Refused Refusal.Usage)
-        → where_built (order_view order.now) ≡ None }
-    ensures usage_always { where_built (order_view order.now) ≡ None
-        → IsErrOf result (Failure.Refused Refusal.Usage) }
+    ensures later { IfErr result IsLaterFailure }
     ensures failed { IsErrOf result Failure.StoreFault
         → Rose (S.faults store.old) (S.faults store.new) }
     ensures faults { S.faults store.old ≤ S.faults store.new }
     ensures same { S.told store.new ≡ S.told store.old }
-    ensures world { asks_world (where_built (order_view order.now)) ≡ false
+    ensures world { asks_world (Some (order_view order.now)) ≡ false
         → W.replies world.new ≡ W.replies world.old }
 {
     match order {
@@ -78,7 +75,7 @@ fn done_by<'a, R: Threads + Sync, S: Store, W: World, G: Gate>(
             flat,
         } => show(alloc, image, *address, *lines, *flat, store),
         Order::Asm { source, output } => asm(alloc, source, output, store),
-        _ => Err(Failure::Refused(Refusal::Usage)),
+        Order::Gen { seed, size } => generate_and_trace(rt, alloc, *seed, *size, gate),
     }
 }
 
@@ -92,18 +89,18 @@ fn run<R: Threads + Sync, S: Store, W: World, O: Sink, G: Gate>(
     out: &mut O,
     gate: &G,
 ) -> Status
-    ensures usage { result ≡ Status.Refused Refusal.Usage → named_by (texts words.now) ≡ None }
-    ensures usage_always { named_by (texts words.now) ≡ None
+    ensures usage { result ≡ Status.Refused Refusal.Usage → order_of (texts words.now) ≡ None }
+    ensures usage_always { order_of (texts words.now) ≡ None
         → (result ≡ Status.Refused Refusal.Usage) ⊎ (result ≡ Status.Memory) }
     ensures answer { IfSome (S.told store.old) (λ files.
-        Answers (ComesTo files (named_by (texts words.now))
+        Answers (ComesTo files (order_of (texts words.now))
         (W.replies world.old) (W.replies world.new))
         result files (S.told store.new) (O.written out.old) (O.written out.new)) }
     ensures store_fault { result ≡ Status.StoreFault
         → Rose (S.faults store.old) (S.faults store.new) }
     ensures sink_fault { result ≡ Status.SinkFault → Rose (O.faults out.old) (O.faults out.new) }
     ensures silent { IsSilent result → O.written out.new ≡ O.written out.old }
-    ensures world { asks_world (named_by (texts words.now)) ≡ false
+    ensures world { asks_world (order_of (texts words.now)) ≡ false
         → W.replies world.new ≡ W.replies world.old }
 {
     let order = match read_words(alloc, words) {
@@ -134,8 +131,8 @@ pub fn sledge<R: Threads + Sync, S: Store, W: World, O: Sink, E: Sink, G: Gate>(
     gate: &G,
 ) -> Status
     // A refusal for the words comes exactly where they name no command, but for want of memory.
-    ensures usage { result ≡ Status.Refused Refusal.Usage → named_by (texts words.now) ≡ None }
-    ensures usage_always { named_by (texts words.now) ≡ None
+    ensures usage { result ≡ Status.Refused Refusal.Usage → order_of (texts words.now) ≡ None }
+    ensures usage_always { order_of (texts words.now) ≡ None
         → (result ≡ Status.Refused Refusal.Usage) ⊎ (result ≡ Status.Memory) }
 
     // Where the store tells its files, the command comes to its outcome, and the one that records to
@@ -145,7 +142,7 @@ pub fn sledge<R: Threads + Sync, S: Store, W: World, O: Sink, E: Sink, G: Gate>(
     // files are as before; after a fault of the store the file that was to be put may have any bytes
     // or none. Memory alone may be wanting for no reason, and then nothing was written or put.
     ensures answer { IfSome (S.told store.old) (λ files.
-        Answers (ComesTo files (named_by (texts words.now))
+        Answers (ComesTo files (order_of (texts words.now))
         (W.replies world.old) (W.replies world.new))
         result files (S.told store.new) (O.written out.old) (O.written out.new)) }
 
@@ -165,7 +162,7 @@ pub fn sledge<R: Threads + Sync, S: Store, W: World, O: Sink, E: Sink, G: Gate>(
         × AddsPrefix (E.written err.old) (E.written err.new) (fault_line result)) }
 
     // The world is asked by the command that records alone.
-    ensures world { asks_world (named_by (texts words.now)) ≡ false
+    ensures world { asks_world (order_of (texts words.now)) ≡ false
         → W.replies world.new ≡ W.replies world.old }
 {
     let status = run(rt, alloc, words, store, world, out, gate);
@@ -179,7 +176,7 @@ pub fn same_answer()
     ensures script { (first second : List (List ℕ)) → SameScriptAnswer first second }
 {}
 
-/// A command that does not ask the world ends as its words and the files come to, says it, and leaves
+/// A command that does not record a run ends as its words and the files come to, says it, and leaves
 /// the files so: its answer is the one that they name alone.
 pub fn answers_are_outcomes()
     ensures { (words : List (List ℕ)) → OutcomeAnswers words }

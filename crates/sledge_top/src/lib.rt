@@ -5,6 +5,7 @@ mod assemble;
 mod command;
 mod done;
 mod failure;
+mod generated;
 mod kinds;
 mod recording;
 mod recutting;

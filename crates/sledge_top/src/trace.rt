@@ -224,7 +224,7 @@ fn traced_from<R: Threads + Sync, G: Gate>(
 
 /// The report of a recording and its image, with the analyses that words name of what the tracers
 /// of a script leave.
-fn traced_with<'a, R: Threads + Sync, G: Gate>(
+pub fn traced_with<'a, R: Threads + Sync, G: Gate>(
     rt: &R,
     alloc: Global,
     rec: Recording,
@@ -306,7 +306,7 @@ pub fn recorded_in<S: Store>(
 }
 
 /// The script that a text is, with the symbols of an image.
-fn script_of(alloc: Global, image: &Image, text: &[u8]) -> Result<Script, Refused<Refusal>>
+pub fn script_of(alloc: Global, image: &Image, text: &[u8]) -> Result<Script, Refused<Refusal>>
     ensures value { Gives tree_of result (script_of image.now text.now) }
     ensures later { IfErr result IsLaterFault }
 {
