@@ -173,7 +173,7 @@ plain_pair text front back =
 plain_named : (word : List ℕ) (what : KindOf) → named word ≡ Some what → IsPlain word
 plain_named word what is =
     let literal : (name : List ℕ) → list_any is_special name ≡ false → bytes_eq word name ≡ true
-        → IsPlain word =
+    → IsPlain word =
     λ name none same. plain-same word name ((bytes_eq-Decides word name).0 same)
     (plain_literal name none) in
     elim (either (bytes_eq word (codes "all")) (Some kind.All) _ what is) [

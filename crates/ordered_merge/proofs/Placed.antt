@@ -59,7 +59,7 @@ placed_reads target values (post ∷ posts) k same within has =
             let one : ◌≡◌ {A = ℕ} (cond (eqb post.epoch k) 1 0) 0 =
             ap (λ b. cond b 1 0) (ne_eqb post.epoch k not) in
             omega (arith, some, one, sum_by-cons (λ (p : Post). cond (eqb p.epoch k) 1 0) post posts)
-          )
+            )
       ]
     ])
 

@@ -201,9 +201,7 @@ fn push_row(
 {
     match row {
         Row::Of(entry) => push_record_line(alloc, out, position, kind, entry),
-        Row::Number(n) => {
-            push_value_line(out, position, kind, b"", number_text(*n).as_bytes())
-        }
+        Row::Number(n) => { push_value_line(out, position, kind, b"", number_text(*n).as_bytes()) }
         Row::Word(word) => {
             push_value_line(out, position, kind, b"", word_text(*word).as_bytes())
         }
@@ -280,11 +278,7 @@ pub fn push_end_line(out: &mut Table, end: &End, count: u64, pc: u32) -> Result<
 }
 
 /// Adds the line of the registers.
-pub fn push_regs_line(
-    alloc: Global,
-    out: &mut Table,
-    registers: &[u32; 32],
-) -> Result<(), Memory>
+pub fn push_regs_line(alloc: Global, out: &mut Table, registers: &[u32; 32]) -> Result<(), Memory>
     requires ready { IsReady out.old }
     ensures ready { OnOk result (IsReady out.new) }
     ensures text { OnOk result (text_in out.new ≡ text_in out.old ++ regs_line registers.now) }

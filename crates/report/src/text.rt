@@ -27,7 +27,13 @@ fn push_analyses(
 {
     for (i, kind) in kinds.iter().enumerate() {
         let position = i as u64 + 1;
-        push_analysis(alloc, out, position, kind.word.as_slice(), all[i].as_slice())?;
+        push_analysis(
+            alloc,
+            out,
+            position,
+            kind.word.as_slice(),
+            all[i].as_slice(),
+        )?;
     }
     Ok(())
 }
