@@ -6,3 +6,4 @@ mod Recorded
 mod GeneratedRuns
 mod KindCodes
 mod AnalysisWords
+mod Accepting

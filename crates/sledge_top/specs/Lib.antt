@@ -3,5 +3,6 @@ pub mod Kinds
 pub mod Runs
 pub mod Show
 pub mod Answer
+pub mod Accepted
 pub mod Endings
 pub mod Views

@@ -7,6 +7,7 @@ ghost use Rattle.report.specs.Status.{fault_line};
 ghost use Rattle.cli_words.specs.Orders.{order_of, Fits};
 ghost use Rattle.cli_words.specs.Views.{texts, order_view};
 ghost use Rattle.sledge_top.specs.Answer.{asks_world, ComesTo, SameAnswer, SameScriptAnswer, OutcomeAnswers};
+ghost use Rattle.sledge_top.specs.Accepted.{RecordingsAreAccepted};
 ghost use Rattle.sledge_top.specs.Endings.{IsSilent, Answers};
 ghost use Rattle.sledge_top.specs.Views.{ComesSo, IsLaterFailure};
 
@@ -180,4 +181,10 @@ pub fn same_answer()
 /// the files so: its answer is the one that they name alone.
 pub fn answers_are_outcomes()
     ensures { (words : List (List ℕ)) → OutcomeAnswers words }
+{}
+
+/// What the command that records puts is a recording that the other commands accept: it is read
+/// again, replays without a break, and cut anew by the same distance has the same bytes.
+pub fn recordings_are_accepted()
+    ensures { RecordingsAreAccepted }
 {}

@@ -14,7 +14,7 @@ mod show;
 mod store;
 mod trace;
 
-pub use command::{answers_are_outcomes, same_answer, sledge};
+pub use command::{answers_are_outcomes, recordings_are_accepted, same_answer, sledge};
 pub use report::{Refusal, Status, write_fault};
 
 #[cfg(test)]

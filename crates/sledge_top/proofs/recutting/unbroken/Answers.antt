@@ -23,5 +23,5 @@ returns-in_err-replay_plan-clause-value g c =
     let fails = refuses_too both (first_break plan.checkpoints.rec opened) left why c.in_err-replay_plan.ensures.merged in
     let p = err_from_is_err_and c.from_residual-in_err-replay_plan.result c.from_residual-in_err-replay_plan.ensures.1 in
     rw (p.1, p.2) (
-      subst (λ (s : State). Fails why (unless_broken both (first_break c.args.rec s))) c.in_ok-plan.ensures.opened (
-      subst (λ (rec : Recording). Fails why (unless_broken both (first_break rec opened))) c.in_ok-plan.ensures.recording fails))
+    subst (λ (s : State). Fails why (unless_broken both (first_break c.args.rec s))) c.in_ok-plan.ensures.opened (
+    subst (λ (rec : Recording). Fails why (unless_broken both (first_break rec opened))) c.in_ok-plan.ensures.recording fails))
