@@ -2,6 +2,7 @@
 
 mod analyses;
 mod assembled;
+mod generates;
 mod recorded;
 mod recordings;
 mod refusals;

@@ -69,7 +69,7 @@ asm none.s b.elf => 2 sledge: absent: none.s
 show none.elf 0 1 => 2 sledge: absent: none.elf
 show a.rec 0 1 => 5 sledge: image broken at 0: Short
 show a.rec 0 1 --flat 10000 => 5 sledge: image broken at 0: Segment range
-gen 0 1 => 1 sledge: usage
+gen 0 0 => 1 sledge: usage
 ";
 
 #[test]

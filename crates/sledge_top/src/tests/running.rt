@@ -36,7 +36,7 @@ pub fn told_over<R: Threads + Sync>(
     world: &mut MemoryWorld,
     words: &str,
 ) -> Result<Vec<u8>, Fail> {
-    told_at(rt, alloc, store, world, words, 300, &NoGate)
+    told_at(rt, alloc, store, world, words, 400, &NoGate)
 }
 
 /// The same with so much room for the first output, and a gate.
