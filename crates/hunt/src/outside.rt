@@ -1,7 +1,7 @@
 //! The outside of a program that is recorded by a command of a guide.
 
-ghost use Rattle.std.specs.Prelude.{◌≤◌, length};
-ghost use Rattle.sl_base.specs.World.{IsAsked, IsAnswer, KeepsRest};
+ghost use Rattle.std.specs.Prelude.{◌≡◌, ◌≤◌, ◌⊎◌, length, drop};
+ghost use Rattle.sl_base.specs.World.{failure};
 
 use sl_base::{Call, FAILURE, READ, WRITE, World};
 use std::alloc::Global;
@@ -33,6 +33,8 @@ impl Outside {
     /// Reads as many bytes as there are, up to the room.
     fn read_input(&mut self, room: &mut [u8]) -> u32
         requires { length room.old ≤ 65536 }
+        ensures count { result ≤ length room.old }
+        ensures rest { drop result room.new ≡ drop result room.old }
     {
         let Some(rest) = self.input.get(self.read..) else {
             return 0;
@@ -46,6 +48,7 @@ impl Outside {
     /// Keeps all bytes, or none where memory can't be had.
     fn keep(&mut self, bytes: &[u8]) -> u32
         requires { length bytes.now ≤ 65536 }
+        ensures { (result ≡ length bytes.now) ⊎ (result ≡ failure) }
     {
         match self.written.extend_from_slice(bytes) {
             Ok(()) => bytes.len() as u32,
