@@ -2,7 +2,9 @@
 
 use super::running::{store_of, tells, told_at};
 use sl_base::{MemoryWorld, NoGate};
+use std::alloc::Global;
 use std::test::Fail;
+use std::thread::Threads;
 
 #[test]
 fn generated_programs_are_traced(rt: HostRuntime) -> Result<(), Fail> {
@@ -25,25 +27,26 @@ fn generated_programs_are_traced(rt: HostRuntime) -> Result<(), Fail> {
     Ok(())
 }
 
+/// The report of a program of a thousand turns.
+fn report<R: Threads + Sync>(rt: &R, alloc: Global) -> Result<Vec<u8>, Fail> {
+    let mut store = store_of(alloc, "a", b"", &[])?;
+    let mut world = MemoryWorld::new(Vec::new(alloc));
+    told_at(
+        rt,
+        alloc,
+        &mut store,
+        &mut world,
+        "gen 1 1000",
+        600,
+        &NoGate,
+    )
+}
+
 #[test]
 fn one_seed_has_one_report(rt: HostRuntime) -> Result<(), Fail> {
-    let alloc = rt.alloc();
-    let mut texts = Vec::new(alloc);
-    for _ in 0..2 {
-        let mut store = store_of(alloc, "a", b"", &[])?;
-        let mut world = MemoryWorld::new(Vec::new(alloc));
-        let text = told_at(
-            &rt,
-            alloc,
-            &mut store,
-            &mut world,
-            "gen 1 1000",
-            600,
-            &NoGate,
-        )?;
-        texts.push(text)?;
-    }
-    assert_eq!(rt; texts[0].as_slice(), texts[1].as_slice());
-    assert!(rt; texts[0].starts_with(b"0 1,count,,,,,1000\n"));
+    let first = report(&rt, rt.alloc())?;
+    let second = report(&rt, rt.alloc())?;
+    assert_eq!(rt; first.as_slice(), second.as_slice());
+    assert!(rt; first.starts_with(b"0 1,count,,,,,1000\n"));
     Ok(())
 }

@@ -258,8 +258,8 @@ fn changed_files(rt: HostRuntime) -> Result<(), Fail> {
     let bytes = bytes_of(alloc, &store, "a.rec")?;
     let first = checkpoints_at(&recording_in(alloc, &store, "a.rec")?);
     // Checkpoint 5 is the first that lists a page, and the bytes of the end stand behind the last.
-    let listed = first + 5 * 152 + 4 + 5;
-    let register = first + 2 * 152 + 28;
+    let listed = first.saturating_add(5 * 152 + 4 + 5);
+    let register = first.saturating_add(2 * 152 + 28);
     let end = bytes.len().saturating_sub(156);
     check_changed(&rt, alloc, &bytes, &[(listed, 5)], LISTED)?;
     check_changed(&rt, alloc, &bytes, &[(register, 1), (end, 9)], REGISTER)?;
