@@ -6,3 +6,4 @@ pub mod Plans
 pub mod Loaded
 pub mod Watched
 pub mod AtScript
+pub mod Standings

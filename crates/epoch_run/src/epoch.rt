@@ -19,7 +19,7 @@ use tracer_lang::Record;
 
 /// What is posted of what an epoch came to: its records with their parts of these analyses, or its
 /// first break.
-fn posted(
+pub(crate) fn posted(
     alloc: Global,
     kinds: &[Kind],
     came: Result<Seq<Record>, Refused<Break>>,

@@ -10,6 +10,7 @@ mod places;
 mod plan;
 mod running;
 mod segment;
+mod standing;
 
 pub use epoch::{PlanRuns, run_epoch};
 pub use laws::{
@@ -18,4 +19,5 @@ pub use laws::{
 };
 pub use one_point::at_script;
 pub use plan::{Plan, Worker};
-pub use running::run_between;
+pub use running::{run_between, run_on};
+pub use standing::{Standing, run_next};

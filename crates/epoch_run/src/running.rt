@@ -1,11 +1,11 @@
 //! One epoch of a recorded run.
 
-ghost use Rattle.std.specs.Prelude.{◌≡◌, ◌+◌, ◌<◌, ◌≤◌};
+ghost use Rattle.std.specs.Prelude.{◌≡◌, ◌+◌, ◌<◌, ◌≤◌, OnOk};
 ghost use Rattle.sl_base.specs.Refusals.{Tells};
-ghost use Rattle.rec_format.specs.Recorded.{end_place};
+ghost use Rattle.rec_format.specs.Recorded.{end_place, recorded_state};
 ghost use Rattle.checkpoints.specs.RecordedRun.{opened_of};
 ghost use Rattle.epoch_run.specs.Epochs.{epoch_size, epoch_value};
-ghost use Rattle.epoch_run.specs.Plans.{tracers_of};
+ghost use Rattle.epoch_run.specs.Plans.{tracers_of, state_in};
 
 use crate::plan::{Plan, Worker};
 use crate::segment::run_segment;
@@ -14,6 +14,39 @@ use sl_base::{Refused, Seq, Steps};
 use std::alloc::Global;
 use std::sync::ledger::Ledger;
 use tracer_lang::Record;
+
+/// Replays the epoch from checkpoint `a`, in whose recorded state the worker is, to checkpoint `b`,
+/// and gives the records that are left on it. The worker is then in the state that `b` records,
+/// unless that is the end. The steps that are counted are instructions of the program.
+///
+/// # Errors
+///
+/// The epoch's first break, or want of memory.
+pub fn run_on<L: Ledger>(
+    alloc: Global,
+    plan: &Plan,
+    a: u32,
+    b: u32,
+    worker: &mut Worker,
+    steps: &mut Steps<L>,
+) -> Result<Seq<Record>, Refused<Break>>
+    requires below { a < b }
+    requires within { b ≤ end_place plan.now.checkpoints.rec }
+    requires at { let opened = opened_of plan.now.checkpoints in
+        state_in worker.old ≡ recorded_state plan.now.checkpoints.rec opened a }
+    ensures value { let opened = opened_of plan.now.checkpoints in
+        Tells result (epoch_value plan.now.checkpoints.rec opened (tracers_of plan.now) a b) }
+    ensures steps { steps.new ≤ steps.old + epoch_size plan.now.checkpoints.rec a b }
+    ensures state { let rec = plan.now.checkpoints.rec in
+        let next = recorded_state rec (opened_of plan.now.checkpoints) b in
+        OnOk result (b < end_place rec → state_in worker.new ≡ next) }
+{
+    let mut records = Vec::new(alloc);
+    for j in a..b {
+        run_segment(alloc, plan, j, worker, &mut records, steps)?;
+    }
+    Ok(Seq::from_vec(records))
+}
 
 /// Replays the epoch from checkpoint `a` to checkpoint `b`, from the state that `a` records, also
 /// where no run ever had that state, and gives the records that are left on it. What the worker ran
@@ -37,9 +70,5 @@ pub fn run_between<L: Ledger>(
     ensures steps { steps.new ≤ steps.old + epoch_size plan.now.checkpoints.rec a b }
 {
     plan.checkpoints.state_at(a, &mut worker.m, &mut worker.f)?;
-    let mut records = Vec::new(alloc);
-    for j in a..b {
-        run_segment(alloc, plan, j, worker, &mut records, steps)?;
-    }
-    Ok(Seq::from_vec(records))
+    run_on(alloc, plan, a, b, worker, steps)
 }

@@ -3,7 +3,7 @@ use Rattle.rec_format.specs.Recorded.{end_place, recorded_state, recorded_count}
 use Rattle.checkpoints.specs.RecordedRun.{opened_of}
 use Rattle.epoch_run.specs.Plans.{tracers_of, state_in}
 use Rattle.epoch_run.proofs.SoFar.{IsSoFar}
-use Rattle.epoch_run.proofs.running.run_between.Given as goal
+use Rattle.epoch_run.proofs.running.run_on.Given as goal
 
 abbrev pub invariant-loop-j : goal.invariant-loop-j
 invariant-loop-j g l =

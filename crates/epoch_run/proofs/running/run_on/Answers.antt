@@ -3,7 +3,7 @@ use Rattle.std.proofs.lemmas.Result.{err_from_is_err_and}
 use Rattle.checkpoints.specs.RecordedRun.{opened_of}
 use Rattle.epoch_run.specs.Plans.{tracers_of}
 use Rattle.epoch_run.proofs.SoFar.{goes_further, stops_there, more_steps, within_size}
-use Rattle.epoch_run.proofs.running.run_between.Goals as goal
+use Rattle.epoch_run.proofs.running.run_on.Goals as goal
 
 pub returns-in_err-run_segment-clause-steps : goal.returns-in_err-run_segment-clause-steps
 returns-in_err-run_segment-clause-steps g c =
@@ -15,7 +15,7 @@ returns-in_err-run_segment-clause-steps g c =
 
 pub returns-in_err-run_segment-clause-value : goal.returns-in_err-run_segment-clause-value
 returns-in_err-run_segment-clause-value g c =
-    let p = err_from_is_err_and c.from_residual-in_err-run_segment.result c.from_residual-in_err-run_segment.ensures.1 in
+    let p = err_from_is_err_and c.from_residual.result c.from_residual.ensures.1 in
     let plan = c.args.plan.now in
     let kept = c.loop-j.invariant in
     rw (p.1, p.2)

@@ -1,0 +1,21 @@
+-- Where a worker stands between two epochs.
+use Rattle.std.specs.Prelude.{◌≡◌, ℕ, nat_lt, Option, Some, None, if◌then◌else◌}
+use Rattle.rec_format.specs.Recorded.{end_place, recorded_state}
+use Rattle.checkpoints.specs.RecordedRun.{opened_of}
+use Rattle.epoch_run.specs.declared.plan.Plan.{Plan}
+use Rattle.epoch_run.specs.declared.plan.Worker.{Worker}
+use Rattle.epoch_run.specs.declared.standing.Standing.{Standing}
+use Rattle.epoch_run.specs.Plans.{state_in}
+
+-- a worker is in the state that a checkpoint records, where one is named
+abbrev pub StandsAt : Plan → Worker → Option ℕ → Type 0
+StandsAt plan worker None = Unit {0}
+StandsAt plan worker (Some k) =
+    state_in worker ≡ recorded_state plan.checkpoints.rec (opened_of plan.checkpoints) k
+
+abbrev pub StandsIn : Plan → Standing → Type 0
+StandsIn plan standing = StandsAt plan standing.worker standing.at
+
+-- a checkpoint, where it is not that of the end
+abbrev pub place_before_end : Plan → ℕ → Option ℕ
+place_before_end plan b = if nat_lt b (end_place plan.checkpoints.rec) then Some b else None
