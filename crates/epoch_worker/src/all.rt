@@ -22,7 +22,7 @@ fn work_in_threads<R: Threads + Sync, P: Epochs, G: Gate>(
     alloc: Global,
     epochs: &P,
     board: &Board,
-    jobs: Vec<Job<P::Worker>>,
+    jobs: Vec<Job>,
     gate: &G,
 ) -> Result<Vec<Result<Worked, Memory>>, Memory>
     requires epochs { board.now.epochs ≡ length (P.values epochs.now) }
@@ -35,18 +35,14 @@ fn work_in_threads<R: Threads + Sync, P: Epochs, G: Gate>(
     let all = thread::map_vec(
         rt,
         jobs,
-        &|job: Job<P::Worker>| -> Result<Worked, Memory>
+        &|job: Job| -> Result<Worked, Memory>
             requires epochs { board.now.epochs ≡ length (P.values epochs.now) }
             requires seat { job.seat ≡ new_seat board.now 1 false }
             ensures { IfOk result
                 (HasFinished (P.values epochs.entry.now) board.entry.now 1) }
         {
-            let Job {
-                seat,
-                worker,
-                number,
-            } = job;
-            work(alloc, epochs, board, seat, worker, number, gate)
+            let Job { seat, number } = job;
+            work(alloc, epochs, board, seat, number, gate)
         },
     )?;
     Ok(all)
@@ -73,7 +69,7 @@ pub fn run_all<R: Threads + Sync, P: Epochs, G: Gate>(
 {
     let seats = workers.min(count).max(1);
     let (board, seat) = Board::new(alloc, count, seats)?;
-    let jobs = jobs_of(alloc, epochs, &board, seat, seats)?;
+    let jobs = jobs_of(alloc, &board, seat, seats)?;
     let all = work_in_threads(rt, alloc, epochs, &board, jobs, gate)?;
     let Worked { seat, tray } = join_all(epochs, &board, all)?;
     board.close(seat);

@@ -16,13 +16,19 @@ pub trait Epochs: Sync {
     /// What each epoch comes to, from epoch 0 on.
     ghost values: { Self → List PostValue };
 
+    /// What is known of a worker that runs these epochs.
+    ghost stands: { Self → Self.Worker → Type 0 };
+
     /// The memory of a worker that has run nothing yet.
-    fn start(&self, alloc: Global) -> Result<Self::Worker, Memory>;
+    fn start(&self, alloc: Global) -> Result<Self::Worker, Memory>
+        ensures { IfOk result (stands self.now) };
 
     /// Runs an epoch, whatever the worker ran before, and gives its post. After an `Err` the worker
     /// is given up.
     fn run(&self, alloc: Global, worker: &mut Self::Worker, epoch: u32) -> Result<Post, Memory>
-        requires { epoch < length (values self.now) }
+        requires within { epoch < length (values self.now) }
+        requires stands { stands self.now worker.old }
+        ensures stands { IfOk result (λ post. stands self.now worker.new) }
         ensures epoch { IfOk result (λ post. post.epoch ≡ epoch) }
         ensures value { IfOk result
             (λ post. slice_get (values self.now) epoch ≡ Some post.value) };

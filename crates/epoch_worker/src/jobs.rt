@@ -3,30 +3,26 @@
 ghost use Rattle.std.specs.Prelude.{◌≡◌, ◌≤◌, false, All, vec_len, IfOk};
 ghost use Rattle.epoch_board.specs.Seats.{new_seat};
 
-use crate::epochs::Epochs;
 use epoch_board::{Board, BoardSeat};
 use sl_base::Memory;
 use std::alloc::Global;
 
 /// What a worker begins with.
 #[derive(Drop)]
-pub(crate) struct Job<W> {
+pub(crate) struct Job {
     /// Its seat, which has claimed nothing.
     pub(crate) seat: BoardSeat,
-    /// The memory that it runs epochs with.
-    pub(crate) worker: W,
     /// Its number, from 0.
     pub(crate) number: u32,
 }
 
 /// A job for each seat that can be made of the board.
-pub(crate) fn jobs_of<P: Epochs>(
+pub(crate) fn jobs_of(
     alloc: Global,
-    epochs: &P,
     board: &Board,
     mut seat: BoardSeat,
     seats: u32,
-) -> Result<Vec<Job<P::Worker>>, Memory>
+) -> Result<Vec<Job>, Memory>
     requires some { 1 ≤ seats }
     requires first { seat ≡ new_seat board.now seats false }
     ensures count { IfOk result (λ jobs. vec_len jobs ≡ seats) }
@@ -35,17 +31,13 @@ pub(crate) fn jobs_of<P: Epochs>(
 {
     let mut jobs = Vec::new(alloc);
     for number in 1..seats {
-        let worker = epochs.start(alloc)?;
         jobs.push(Job {
             seat: board.split(&mut seat),
-            worker,
             number,
         })?;
     }
-    let worker = epochs.start(alloc)?;
     jobs.push(Job {
         seat,
-        worker,
         number: 0,
     })?;
     Ok(jobs)

@@ -62,6 +62,8 @@ impl<'a> Epochs for ListedEpochs<'a> {
 
     ghost values = { λ epochs. map value_of epochs.listed.items };
 
+    ghost stands = { λ epochs worker. Unit {0} };
+
     ghost not_skipped = { λ epochs. values_are_own epochs.listed.items };
 
     fn start(&self, _alloc: Global) -> Result<u64, Memory> {
@@ -213,7 +215,7 @@ fn epochs_behind_a_break_are_skipped(rt: HostRuntime) -> Result<(), Fail> {
     let claims = Claims::new();
     let epochs = listed(alloc, 7, &[4], &claims, None)?;
     let (board, seat) = Board::new(alloc, 7, 1)?;
-    let Worked { seat, tray } = work(alloc, &epochs, &board, seat, 0, 0, &claims)?;
+    let Worked { seat, tray } = work(alloc, &epochs, &board, seat, 0, &claims)?;
     let mut posts = Vec::new(alloc);
     for post in &tray {
         posts.push(told_by(post))?;

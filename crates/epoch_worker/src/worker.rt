@@ -35,7 +35,9 @@ fn post_of<P: Epochs>(
     epoch: u32,
     below: Option<u32>,
 ) -> Result<Post, Memory>
-    requires { epoch < length (P.values epochs.now) }
+    requires within { epoch < length (P.values epochs.now) }
+    requires stands { P.stands epochs.now worker.old }
+    ensures stands { IfOk result (λ post. P.stands epochs.now worker.new) }
     ensures epoch { IfOk result (λ post. post.epoch ≡ epoch) }
     ensures due { IfOk result (IsDueBelow (P.values epochs.now) epoch below) }
 {
@@ -73,7 +75,6 @@ pub fn work<P: Epochs, G: Gate>(
     epochs: &P,
     board: &Board,
     mut seat: BoardSeat,
-    mut worker: P::Worker,
     number: u32,
     gate: &G,
 ) -> Result<Worked, Memory>
@@ -81,6 +82,7 @@ pub fn work<P: Epochs, G: Gate>(
     requires seat { seat ≡ new_seat board.now 1 false }
     ensures { IfOk result (HasFinished (P.values epochs.now) board.now 1) }
 {
+    let mut worker = epochs.start(alloc)?;
     let mut tray = Vec::new(alloc);
     while let Some(epoch) = board.claim(&mut seat) {
         gate.claimed(number, epoch);

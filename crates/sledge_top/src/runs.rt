@@ -4,12 +4,13 @@ ghost use Rattle.std.specs.Prelude.{◌≡◌, ◌<◌, Some, length, slice_get,
 ghost use Rattle.sl_base.specs.Refusals.{Tells};
 ghost use Rattle.epoch_core.specs.Posts.{Posted};
 ghost use Rattle.epoch_run.specs.Plans.{values_of};
+ghost use Rattle.epoch_run.specs.Standings.{StandsIn};
 ghost use Rattle.sledge_top.specs.Runs.{run_in};
 
 use analysers::Merged;
 use call_log::Break;
-use epoch_core::{Post, Runs};
-use epoch_run::{Plan, PlanRuns, Worker, values_are_the_run};
+use epoch_core::Post;
+use epoch_run::{Plan, Standing, run_next, values_are_the_run};
 use epoch_worker::{Epochs, run_all};
 use ordered_merge::{merge, merged_means};
 use sl_base::{Brand, Gate, Memory, Refused, Steps};
@@ -23,46 +24,47 @@ struct PlanEpochs<'a> {
     plan: &'a Plan,
 }
 
-/// Runs an epoch of a plan. Its steps are counted on a ledger of their own.
+/// Runs an epoch of a plan, from where the worker stands. Its steps are counted on a ledger of
+/// their own.
 fn run_counted<L: Ledger>(
     alloc: Global,
     plan: &Plan,
-    worker: &mut Worker,
+    standing: &mut Standing,
     epoch: u32,
     blank: Blank,
 ) -> Result<Post, Memory>
     requires within { epoch < length (values_of plan.now) }
+    requires stands { StandsIn plan.now standing.old }
     requires name { blank.name ≡ L.name }
     requires parts { blank.parts ≡ L.parts }
     requires some_parts { 0 < blank.parts }
     ensures epoch { IfOk result (λ post. post.epoch ≡ epoch) }
     ensures value { IfOk result
         (λ post. slice_get (values_of plan.now) epoch ≡ Some post.value) }
+    ensures stands { StandsIn plan.now standing.new }
 {
     let mut steps = Steps::<L>::new(blank);
-    let mut runs = PlanRuns {
-        plan,
-        worker,
-        steps: &mut steps,
-    };
-    runs.run(alloc, epoch)
+    run_next(alloc, plan, epoch, standing, &mut steps)
 }
 
 impl<'a> Epochs for PlanEpochs<'a> {
-    type Worker = Worker;
+    type Worker = Standing;
 
     ghost use Rattle.epoch_run.specs.Plans.{values_of, values_are_own};
+    ghost use Rattle.epoch_run.specs.Standings.{StandsIn};
 
     ghost values = { λ epochs. values_of epochs.plan.now };
 
+    ghost stands = { λ epochs standing. StandsIn epochs.plan.now standing };
+
     ghost not_skipped = { λ epochs. values_are_own epochs.plan.now };
 
-    fn start(&self, alloc: Global) -> Result<Worker, Memory> {
-        Worker::new(alloc)
+    fn start(&self, alloc: Global) -> Result<Standing, Memory> {
+        Standing::new(alloc)
     }
 
-    fn run(&self, alloc: Global, worker: &mut Worker, epoch: u32) -> Result<Post, Memory> {
-        run_counted::<Brand>(alloc, self.plan, worker, epoch, Blank::new(1))
+    fn run(&self, alloc: Global, standing: &mut Standing, epoch: u32) -> Result<Post, Memory> {
+        run_counted::<Brand>(alloc, self.plan, standing, epoch, Blank::new(1))
     }
 }
 
