@@ -107,7 +107,11 @@ fn run_epoch_standing<L: Ledger>(
     let a = places[k as usize];
     let b = places[k as usize + 1];
     let kinds = plan.kinds.as_slice();
-    let value = posted(alloc, kinds, run_standing(alloc, plan, a, b, standing, steps))?;
+    let value = posted(
+        alloc,
+        kinds,
+        run_standing(alloc, plan, a, b, standing, steps),
+    )?;
     Ok(Post { epoch: k, value })
 }
 

@@ -36,9 +36,6 @@ pub(crate) fn jobs_of(
             number,
         })?;
     }
-    jobs.push(Job {
-        seat,
-        number: 0,
-    })?;
+    jobs.push(Job { seat, number: 0 })?;
     Ok(jobs)
 }
