@@ -1,4 +1,5 @@
 mod WholeRun
+mod Shared
 mod Reports
 mod Arguments
 mod Recuts
