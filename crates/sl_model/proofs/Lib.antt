@@ -9,3 +9,6 @@ pub mod Counted
 pub mod Fitting
 pub mod Mapping
 pub mod WholePages
+pub mod RunsLaws
+pub mod UndoLaws
+mod BankRows

@@ -2,6 +2,7 @@
 //! that a step reads and writes through.
 #![tactic(auto)]
 
+mod bank;
 mod bits;
 mod bus;
 mod instr;
@@ -11,6 +12,10 @@ pub mod opcodes;
 mod run_state;
 mod traps;
 
+pub use bank::{
+    CODE_START, COPIED_WORDS, ENTRY_SIZE, FRAMES_SIZE, FRAMES_START, LOG_SIZE, LOG_START,
+    MOST_CODE_WORDS, MOST_ENTRIES, MOST_OUTPUT_WORDS, OUTPUT_SIZE, OUTPUT_START,
+};
 pub use bits::Bits;
 pub use bus::Bus;
 pub use instr::{
