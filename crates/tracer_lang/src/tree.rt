@@ -42,12 +42,24 @@ pub enum Expr {
 
 /// The arguments of a call, in order.
 #[cycle(expressions)]
-#[derive(Drop)]
 pub enum Args {
     /// No more.
     End,
     /// One, and those after it.
     And(Box<Expr>, Box<Args>),
+}
+
+/// A list may be as long as a script has nodes, so it goes piece by piece and not by recursion.
+impl Drop for Args {
+    #[cycle(expressions)]
+    fn drop(mut self) {
+        loop {
+            match self {
+                Args::End => return,
+                Args::And(_, rest) => self = Box::into_inner(rest),
+            }
+        }
+    }
 }
 
 /// What is done.
@@ -83,7 +95,7 @@ pub enum Block {
     And(Box<Stmt>, Box<Block>),
 }
 
-/// A list may be as long as a script has nodes, so it goes piece by piece and not by recursion.
+/// Piece by piece, as the arguments of a call.
 impl Drop for Block {
     #[cycle(statements)]
     fn drop(mut self) {
