@@ -362,6 +362,8 @@ impl Bus for Frames {
 
     ghost is_marking = { λ _. true };
 
+    ghost fixed = { λ _. tt };
+
     #[inline(always)]
     fn load(&self, addr: u32, width: u8) -> Option<u32> {
         let offset = (addr % 4096) as usize;

@@ -1,11 +1,13 @@
 -- Memory in which one page is mapped, page 16.
-use Rattle.std.specs.Prelude.{Option, is_some}
+use Rattle.std.specs.Prelude.{Option, is_some, Contains, if◌then◌else◌}
 use Rattle.std.specs.Option.{option_map}
 use Rattle.std.specs.Ordering.{nat_cmp}
 use Rattle.std.specs.Cmp.{nat_cmp_total}
 use Rattle.std.specs.FinMap.{get, insert, empty, gets, get-empty, same_map, nat_cmp-IsAntisymmetric}
-use Rattle.std.proofs.Common.{◌≡◌, ℕ, ◌+◌, ◌-◌, ◌*◌, ◌/◌, ◌%◌, ◌<◌, ◌≤◌, ◌⊎◌, inl, inr, List, length, take, drop, Some, None, true, refl, sym, ap, ◌∙◌, arith, true≢false}
+use Rattle.std.proofs.Common.{◌≡◌, ℕ, ◌+◌, ◌-◌, ◌*◌, ◌/◌, ◌%◌, ◌<◌, ◌≤◌, ◌⊎◌, ◌≢◌, ◌∷◌, ◌++◌, [], inl, inr, ⊎_elim, Bool, eqb, List, length, take, drop, Some, None, true, false, refl, subst, sym, ap, ◌∙◌, arith, true≢false}
+use Rattle.std.proofs.lemmas.Bool.Decides.{eqb_tells}
 use Rattle.std.proofs.lemmas.Grind.{common_steps}
+use Rattle.sl_model.specs.Marks.{MarksGoOn}
 use Rattle.sl_model.specs.Pages.{Pages, bytes_at, load_at, store_at, set_bytes, put_bytes, from_bytes, low_bytes}
 use Rattle.sl_model.proofs.PagesLaws.{load_at-in_page, bytes_at-in_page, bytes_at-mapped, set_bytes-in_page, length-low_bytes}
 
@@ -67,3 +69,17 @@ stored page after address offset width value whole is within put =
   where
     twice : (first last : List ℕ) → insert (one_page first) 16 last ≡ one_page last
     twice first last = same_map nat_cmp_total nat_cmp-IsAntisymmetric _ _ (λ q. grind (arith, gets, common_steps))
+
+go_on : (was : Bool) → (more : List ℕ) × (16 ∷ [] ≡ (if was then 16 ∷ [] else []) ++ more)
+go_on true = ([], refl)
+go_on false = (16 ∷ [], refl)
+
+-- the marks go on where the page is marked, whether or not it was before
+pub marked : (page after : List ℕ) (was : Bool) → MarksGoOn true (one_page page) (if was then 16 ∷ [] else []) (one_page after) (16 ∷ [])
+marked page after was = record {
+  keeps = go_on was;
+  marks = λ marking number below. ⊎_elim
+      (λ (it : (eqb number 16 ≡ true) × (number ≡ 16)). inr (subst (Contains (16 ∷ [])) (sym it.1) (0, omega arith, refl)))
+      (λ (other : (eqb number 16 ≡ false) × (number ≢ 16)). inl (elsewhere after number other.1 ∙ sym (elsewhere page number other.1)))
+      (eqb_tells number 16);
+}

@@ -127,6 +127,7 @@ fn store<B: Bus>(m: &mut Machine, bus: &mut B, op: StoreOp, addr: u32, value: u3
     ensures went_on { WentOn (next.store (state_of m.old (B.pages bus.old)) op addr value)
         m.old (B.pages bus.old) result m.new (B.pages bus.new) }
     ensures marking { B.is_marking bus.new ≡ B.is_marking bus.old }
+    ensures fixed { B.fixed bus.new ≡ B.fixed bus.old }
     ensures marks { MarksGoOn (B.is_marking bus.old)
         (B.pages bus.old) (B.marked bus.old) (B.pages bus.new) (B.marked bus.new) }
     ensures kept { result ≢ Outcome.Stepped → B.marked bus.new ≡ B.marked bus.old }
@@ -148,6 +149,7 @@ pub fn execute<B: Bus>(m: &mut Machine, bus: &mut B, instr: Instr) -> Outcome
     ensures went_on { WentOn (next.execute (state_of m.old (B.pages bus.old)) instr)
         m.old (B.pages bus.old) result m.new (B.pages bus.new) }
     ensures marking { B.is_marking bus.new ≡ B.is_marking bus.old }
+    ensures fixed { B.fixed bus.new ≡ B.fixed bus.old }
     ensures marks { MarksGoOn (B.is_marking bus.old)
         (B.pages bus.old) (B.marked bus.old) (B.pages bus.new) (B.marked bus.new) }
     ensures kept { result ≢ Outcome.Stepped → B.marked bus.new ≡ B.marked bus.old }

@@ -21,6 +21,7 @@ fn do_next<B: Bus>(m: &mut Machine, bus: &mut B) -> Outcome
     ensures next { WentOn (next.step (state_of m.old (B.pages bus.old)))
         m.old (B.pages bus.old) result m.new (B.pages bus.new) }
     ensures marking { B.is_marking bus.new ≡ B.is_marking bus.old }
+    ensures fixed { B.fixed bus.new ≡ B.fixed bus.old }
     ensures marks { MarksGoOn (B.is_marking bus.old)
         (B.pages bus.old) (B.marked bus.old) (B.pages bus.new) (B.marked bus.new) }
     ensures kept { result ≢ Outcome.Stepped → B.marked bus.new ≡ B.marked bus.old }
@@ -49,6 +50,7 @@ pub fn step<B: Bus, L: Ledger>(m: &mut Machine, bus: &mut B, steps: &mut Steps<L
     ensures next { WentOn (next.step (state_of m.old (B.pages bus.old)))
         m.old (B.pages bus.old) result m.new (B.pages bus.new) }
     ensures marking { B.is_marking bus.new ≡ B.is_marking bus.old }
+    ensures fixed { B.fixed bus.new ≡ B.fixed bus.old }
     ensures marks { MarksGoOn (B.is_marking bus.old)
         (B.pages bus.old) (B.marked bus.old) (B.pages bus.new) (B.marked bus.new) }
     ensures kept { result ≢ Outcome.Stepped → B.marked bus.new ≡ B.marked bus.old }

@@ -14,6 +14,7 @@ use std::process::Abort;
 use std::sync::ledger::{Blank, Ledger};
 use std::test::Fail;
 
+mod marked_page;
 mod one_page;
 mod values;
 
@@ -301,5 +302,24 @@ fn calls_and_other_traps(rt: HostRuntime) -> Result<(), Fail> {
         assert_eq!(rt; m, machine_at(pc, 0, 0));
         assert_eq!(rt; store_of(&m, memory), None);
     }
+    Ok(())
+}
+
+#[test]
+fn borrowed_parts_come_back(rt: HostRuntime) -> Result<(), Fail> {
+    let mut page = OnePage::zeros();
+    let mut is_marked = false;
+    let store = Instr::Store {
+        op: StoreOp::Sw,
+        rs1: x(1),
+        rs2: x(2),
+        offset: Bits::<12>::low(0x100),
+    };
+    assert!(rt; page.store(PLACE, 4, encode(&store)));
+    let mut m = machine_at(PLACE, PLACE, ONES);
+    let outcome = marked_page::one_step(&mut m, &mut page, &mut is_marked);
+    assert_eq!(rt; outcome, Outcome::Stepped);
+    assert!(rt; is_marked);
+    assert_eq!(rt; page.load(PLACE + 0x100, 4), Some(ONES));
     Ok(())
 }

@@ -16,6 +16,14 @@ pub trait Bus {
     /// Whether what changes is marked.
     ghost is_marking: { Self → Bool };
 
+    /// The type of `fixed`, with one value where an `impl` says nothing.
+    ghost Fixed: { Type 0 } = { Unit {0} };
+
+    /// What no store changes. A bus over borrowed memory gives the ghost names of its borrows, so
+    /// that the lender knows that each of them ends as the bus left it, and whatever else of them
+    /// stays.
+    ghost fixed: { Self → Fixed };
+
     /// The little-endian number in the `width` bytes at an address, with no sign; `None` exactly
     /// where one of them is not mapped.
     fn load(&self, addr: u32, width: u8) -> Option<u32>
@@ -32,6 +40,7 @@ pub trait Bus {
             ≡ unwrap_or (store_at (pages self.old) addr width value) (pages self.old) }
         ensures unmapped { OnFalse result (marked self.new ≡ marked self.old) }
         ensures marking { is_marking self.new ≡ is_marking self.old }
+        ensures fixed { fixed self.new ≡ fixed self.old }
         ensures marks { MarksGoOn (is_marking self.old)
             (pages self.old) (marked self.old) (pages self.new) (marked self.new) };
 }

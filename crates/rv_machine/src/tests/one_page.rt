@@ -27,6 +27,8 @@ impl Bus for OnePage {
 
     ghost is_marking = { λ _. false };
 
+    ghost fixed = { λ _. tt };
+
     fn load(&self, addr: u32, width: u8) -> Option<u32> {
         let offset = offset_of(addr, width)?;
         Some(number_at(&self.bytes, offset, width))
