@@ -156,7 +156,7 @@ words-set_register x r value all word = chosen (nat_eq r 0)
     chosen true = all
     chosen false = words-set x r value all word
 
-module _ (s : State) (is : IsState s) where
+module _ (s : State) (is : HasRanges s) where
   register_word : (r : ℕ) → IsWord (register s r)
   register_word r = IsWord-index s.x r is.words
 
@@ -219,11 +219,14 @@ module _ (s : State) (is : IsState s) where
   unfolding step
   ranges-step = in_either (nat_eq (s.pc % 4) 0) _ _ (ranges-fetched (load_at s.pages s.pc 4)) tt
 
+pub HasRanges-step : (s t : State) → HasRanges s → step s ≡ Stepped t → HasRanges t
+HasRanges-step s t is steps = subst InRanges steps (ranges-step s is)
+
 -- a step leads from a state to a state, below the end of the count
 pub IsState-step : (s t : State) → IsState s → s.count + 1 < 2 ^ 64 → step s ≡ Stepped t → IsState t
 IsState-step s t is below steps =
     let next : IsNext s t = IsNext-step s t steps in
-    let ranges : HasRanges t = subst InRanges steps (ranges-step s is) in
+    let ranges : HasRanges t = HasRanges-step s t (record { pc = is.pc; words = is.words; pages = is.pages }) steps in
     record {
       pc = ranges.pc;
       registers = next.registers ∙ is.registers;

@@ -1,0 +1,4 @@
+pub mod Configuration
+pub mod Code
+pub mod Jumps
+pub mod Ways
