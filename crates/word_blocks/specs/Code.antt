@@ -1,5 +1,5 @@
 -- Code as a list of instructions, and where it stands in memory.
-use Rattle.std.specs.Prelude.{◌≡◌, ℕ, ◌+◌, ◌*◌, ◌%◌, ◌^◌, ◌<◌, ⊤, ⊥, List, [], ◌∷◌, length, Some, slice_get}
+use Rattle.std.specs.Prelude.{◌≡◌, ℕ, ◌+◌, ◌*◌, ◌%◌, ◌^◌, ◌<◌, ⊤, List, [], ◌∷◌, length, Some, slice_get}
 use Rattle.sl_model.specs.declared.instr.Instr.{Instr}
 use Rattle.sl_model.specs.Pages.{Pages, load_at}
 use Rattle.sl_model.specs.Words.{Means, meaning}
