@@ -1,1 +1,3 @@
 pub mod Instructions
+pub mod Ways
+pub mod Blocks

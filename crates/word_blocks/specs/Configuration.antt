@@ -28,21 +28,20 @@ pub record Configuration : Type 0 where
   pub registers : Registers
   pub pages : Pages
 
+abbrev pub at_place : ℕ → Registers → Pages → Configuration
+at_place place x pages = record { place = place; registers = x; pages = pages }
+
 -- the address of a load and of a store, and what JALR adds up
 abbrev pub address : Registers → ℕ → ℕ → ℕ
 address x rs1 offset = word_add (read x rs1) (immediate_word offset)
 
 -- at the next place, with a value in a register
 abbrev pub put : Configuration → ℕ → ℕ → Configuration
-put c rd value = record {
-  place = c.place + 1;
-  registers = write c.registers rd value;
-  pages = c.pages;
-}
+put c rd value = at_place (c.place + 1) (write c.registers rd value) c.pages
 
 -- at the next place, with these pages
 abbrev pub with_pages : Configuration → Pages → Configuration
-with_pages c pages = record { place = c.place + 1; registers = c.registers; pages = pages }
+with_pages c pages = at_place (c.place + 1) c.registers pages
 
 -- What an instruction does in code whose first word stands at an address: None where it is a jump,
 -- ends the run or traps.
