@@ -152,19 +152,22 @@ module _ (p : Promise) where
   does-passed (Ecall ∷ rest) place x m goal doing holds has s is = absurd doing
   does-passed (Ebreak ∷ rest) place x m goal doing holds has s is = absurd doing
 
-  -- the same as a way: it takes a step for each instruction
-  pub Leads-block : (block : List Instr) (place limit : ℕ) (x : Registers) (m : Pages) (goal : Registers → Pages → Type 0) → p.holds m → HasBlock p.code place block → length block ≤ limit
-      → Does p place block x m goal
-      → Leads p limit (at_place place x m) (λ left d. (left + length block ≡ limit) × (d.place ≡ place + length block) × p.holds d.pages × goal d.registers d.pages)
-  Leads-block block place limit x m goal holds has enough doing s is =
-      let end : Passed p (length block) place goal s = does-passed block place x m goal doing holds has s is in
+  -- a block as the beginning of a way: it takes a step for each instruction
+  pub Leads-block : (block : List Instr) (place limit : ℕ) (x : Registers) (m : Pages) (middle : Registers → Pages → Type 0) (goal : ℕ → Configuration → Type 0)
+      → p.holds m → HasBlock p.code place block → length block ≤ limit → Does p place block x m middle
+      → ((left : ℕ) (y : Registers) (m' : Pages) → left + length block ≡ limit → p.holds m' → middle y m' → Leads p left (at_place (place + length block) y m') goal)
+      → Leads p limit (at_place place x m) goal
+  Leads-block block place limit x m middle goal holds has enough doing further s is =
+      let half : Passed p (length block) place middle s = does-passed block place x m middle doing holds has s is in
+      let left : ℕ = limit - length block in
+      let whole : Arrives p left goal half.state = further left half.x half.m (omega arith) half.holds half.reached half.state half.is_at in
       record {
-        steps = length block;
-        left = limit - length block;
-        counted = omega arith;
-        state = end.state;
-        comes = end.comes;
-        configuration = at_place (place + length block) end.x end.m;
-        is_at = end.is_at;
-        reached = (omega arith, refl, end.holds, end.reached);
+        steps = length block + whole.steps;
+        left = whole.left;
+        counted = omega (arith, whole.counted);
+        state = whole.state;
+        comes = Comes-then p (length block) whole.steps s half.state whole.state half.comes whole.comes;
+        configuration = whole.configuration;
+        is_at = whole.is_at;
+        reached = whole.reached;
       }

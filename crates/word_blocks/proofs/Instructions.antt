@@ -30,10 +30,14 @@ step-execute start code instr c s stands here is =
     let fetched : load_at s.pages s.pc 4 ≡ Some found.0 = rw (is.pages, is.place) found.1 in
     rw (aligned, fetched, found.2) refl
 
+-- the bits of the word that stands at a place
+pub bits_of : (word : ℕ) (instr : Instr) → meaning word ≡ Some instr → HasBits word instr
+bits_of word instr means = subst (λ o. IfSome o (HasBits word)) means (meaning_has word)
+
 -- ---- registers
 
 -- a register after a write that fits the machine's registers
-read-write : (xs : List ℕ) (x : Registers) (rd value r : ℕ) → rd < length xs → ((q : ℕ) → slice_index xs q ≡ read x q)
+pub read-write : (xs : List ℕ) (x : Registers) (rd value r : ℕ) → rd < length xs → ((q : ℕ) → slice_index xs q ≡ read x q)
     → slice_index (set_register xs rd value) r ≡ read (write x rd value) r
 read-write xs x rd value r fits same = chosen (nat_eq rd 0) (nat_eq r 0) (nat_eq r rd) refl refl refl
   where
@@ -50,10 +54,23 @@ read-write xs x rd value r fits same = chosen (nat_eq rd 0) (nat_eq r 0) (nat_eq
 -- ---- what a step comes to
 
 -- what a configuration says of a state but for the ranges of numbers, which every step keeps
-record Follows (start : ℕ) (d : Configuration) (t : State) : Type 0 where
-  place : t.pc ≡ start + 4 * d.place
-  registers : (r : ℕ) → register t r ≡ read d.registers r
-  pages : t.pages ≡ d.pages
+pub record Follows (start : ℕ) (d : Configuration) (t : State) : Type 0 where
+  pub place : t.pc ≡ start + 4 * d.place
+  pub registers : (r : ℕ) → register t r ≡ read d.registers r
+  pub pages : t.pages ≡ d.pages
+
+pub IsAt-next : (start : ℕ) (c d : Configuration) (s t : State) → IsAt start c s → start + 4 * c.place < 2 ^ 32 → step s ≡ Stepped t → Follows start d t → IsAt start d t
+IsAt-next start c d s t is below led follows =
+    let kept : IsNext s t = IsNext-step s t led in
+    let ranges : HasRanges t = HasRanges-step s t (record { pc = omega (arith, is.place, below); words = is.words; pages = rw is.pages is.bytes }) led in
+    record {
+      place = follows.place;
+      registers = follows.registers;
+      pages = follows.pages;
+      count = kept.registers ∙ is.count;
+      words = ranges.words;
+      bytes = rw follows.pages at ranges.pages;
+    }
 
 abbrev FollowsTo : ℕ → Option Configuration → Next → Type 0
 FollowsTo start None next = Unit {0}
@@ -112,9 +129,6 @@ followed start d (Stepped t) follows = (t, refl, follows)
 followed start d Called follows = absurd follows
 followed start d (Trapped number) follows = absurd follows
 
-bits_of : (word : ℕ) (instr : Instr) → meaning word ≡ Some instr → HasBits word instr
-bits_of word instr means = subst (λ o. IfSome o (HasBits word)) means (meaning_has word)
-
 -- where an instruction does something to a configuration, the step does it
 pub step-does : (start : ℕ) (code : List Instr) (instr : Instr) (c d : Configuration) (s : State) → CodeStands start code c.pages → slice_get code c.place ≡ Some instr → IsAt start c s
     → does start instr c ≡ Some d → (t : State) × (step s ≡ Stepped t) × IsAt start d t
@@ -126,13 +140,4 @@ step-does start code instr c d s stands here is done =
     let follows : FollowsTo start (Some d) (execute s instr) = subst (λ o. FollowsTo start o (execute s instr)) done (execute-follows start c s is further word instr has) in
     let next = followed start d (execute s instr) follows in
     let steps : step s ≡ Stepped next.0 = step-execute start code instr c s stands here is ∙ next.1 in
-    let kept : IsNext s next.0 = IsNext-step s next.0 steps in
-    let ranges : HasRanges next.0 = HasRanges-step s next.0 (record { pc = omega (arith, is.place, further); words = is.words; pages = rw is.pages is.bytes }) steps in
-    (next.0, steps, record {
-      place = next.2.place;
-      registers = next.2.registers;
-      pages = next.2.pages;
-      count = kept.registers ∙ is.count;
-      words = ranges.words;
-      bytes = rw next.2.pages at ranges.pages;
-    })
+    (next.0, steps, IsAt-next start c d s next.0 is (omega (arith, further)) steps next.2)

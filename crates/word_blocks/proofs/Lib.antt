@@ -1,3 +1,4 @@
 pub mod Instructions
 pub mod Ways
 pub mod Blocks
+pub mod Jumps
