@@ -9,14 +9,14 @@ use Rattle.sl_model.specs.Pages.{Pages, ArePages, load_at, store_at}
 use Rattle.sl_model.specs.Stores.{IsStored}
 use Rattle.sl_model.specs.Words.{meaning}
 use Rattle.sl_model.specs.Arithmetic.{word_add, immediate_word, upper_word, immediate_value, shift_value, register_value, mul_div_value, load_width, load_value, store_width}
-use Rattle.sl_model.specs.NextStore.{store_by, next_store}
+use Rattle.sl_model.specs.NextStore.{store_by}
 use Rattle.sl_model.specs.State.{State}
 use Rattle.sl_model.specs.Step.{Stepped, step, address as step_address}
 use Rattle.sl_model.proofs.Memory.{is_some-store_at, IsStored-stored, ArePages-stored}
 use Rattle.word_blocks.specs.Code.{CodeStands, HasBlock}
 use Rattle.word_blocks.specs.Configuration.{Registers, read, write, Configuration, at_place, address, does, IsAt}
 use Rattle.word_blocks.specs.Ways.{Promise, Keeps, Comes, Arrives, Leads}
-use Rattle.word_blocks.proofs.Instructions.{step-does}
+use Rattle.word_blocks.proofs.Instructions.{step-does, next_store-at}
 use Rattle.word_blocks.proofs.Ways.{Comes-step, Comes-then}
 
 -- ---- what a block does
@@ -55,16 +55,6 @@ Does p place (Ecall ∷ rest) x m goal = ⊥
 Does p place (Ebreak ∷ rest) x m goal = ⊥
 
 -- ---- one instruction of it
-
--- the store that comes next is that of the instruction at the place
-pub next_store-at : (start : ℕ) (code : List Instr) (instr : Instr) (c : Configuration) (s : State) → CodeStands start code c.pages → slice_get code c.place ≡ Some instr → IsAt start c s
-    → next_store s ≡ store_by s (Some instr)
-unfolding next_store
-next_store-at start code instr c s stands here is =
-    let found = stands.words c.place instr here in
-    let aligned : s.pc % 4 ≡ 0 = omega (arith, is.place, stands.aligned) in
-    let fetched : load_at s.pages s.pc 4 ≡ Some found.0 = rw (is.pages, is.place) found.1 in
-    rw (aligned, fetched, found.2) refl
 
 -- where a run from a state has come to, so many words further
 record Passed (p : Promise) (count place : ℕ) (goal : Registers → Pages → Type 0) (s : State) : Type 0 where

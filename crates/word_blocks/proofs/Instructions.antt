@@ -12,6 +12,7 @@ use Rattle.sl_model.specs.declared.instr.StoreOp.{StoreOp}
 use Rattle.sl_model.specs.Pages.{Pages, load_at, store_at}
 use Rattle.sl_model.specs.Words.{HasBits, meaning}
 use Rattle.sl_model.specs.Arithmetic.{word_add, immediate_word, upper_word, immediate_value, shift_value, register_value, mul_div_value, load_width, load_value, store_width}
+use Rattle.sl_model.specs.NextStore.{store_by, next_store}
 use Rattle.sl_model.specs.State.{State, register, set_register}
 use Rattle.sl_model.specs.Step.{Next, Stepped, Called, Trapped, step, execute, loaded, stored, put_register, gone_to, after, address as step_address}
 use Rattle.sl_model.proofs.Meanings.{meaning_has}
@@ -25,6 +26,16 @@ use Rattle.word_blocks.specs.Configuration.{Registers, read, write, Configuratio
 pub step-execute : (start : ℕ) (code : List Instr) (instr : Instr) (c : Configuration) (s : State) → CodeStands start code c.pages → slice_get code c.place ≡ Some instr → IsAt start c s → step s ≡ execute s instr
 unfolding step
 step-execute start code instr c s stands here is =
+    let found = stands.words c.place instr here in
+    let aligned : s.pc % 4 ≡ 0 = omega (arith, is.place, stands.aligned) in
+    let fetched : load_at s.pages s.pc 4 ≡ Some found.0 = rw (is.pages, is.place) found.1 in
+    rw (aligned, fetched, found.2) refl
+
+-- the store that comes next is that of the instruction at the place
+pub next_store-at : (start : ℕ) (code : List Instr) (instr : Instr) (c : Configuration) (s : State) → CodeStands start code c.pages → slice_get code c.place ≡ Some instr → IsAt start c s
+    → next_store s ≡ store_by s (Some instr)
+unfolding next_store
+next_store-at start code instr c s stands here is =
     let found = stands.words c.place instr here in
     let aligned : s.pc % 4 ≡ 0 = omega (arith, is.place, stands.aligned) in
     let fetched : load_at s.pages s.pc 4 ≡ Some found.0 = rw (is.pages, is.place) found.1 in
@@ -141,3 +152,35 @@ step-does start code instr c d s stands here is done =
     let next = followed start d (execute s instr) follows in
     let steps : step s ≡ Stepped next.0 = step-execute start code instr c s stands here is ∙ next.1 in
     (next.0, steps, IsAt-next start c d s next.0 is (omega (arith, further)) steps next.2)
+
+-- an instruction leads to the next place
+pub does-place : (start : ℕ) (instr : Instr) (c d : Configuration) → does start instr c ≡ Some d → d.place ≡ c.place + 1
+unfolding does
+does-place start instr c d done = is_next (does start instr c) (next instr) done
+  where
+    is_next : (o : Option Configuration) → IfSome o (λ e. e.place ≡ c.place + 1) → o ≡ Some d → d.place ≡ c.place + 1
+    is_next o all found = rw found at all
+
+    mapped : (o : Option ℕ) (f : ℕ → Configuration) → ((n : ℕ) → (f n).place ≡ c.place + 1) → IfSome (option_map f o) (λ e. e.place ≡ c.place + 1)
+    mapped None f each = tt
+    mapped (Some n) f each = each n
+
+    stored_at : (o : Option Pages) → IfSome (option_map (with_pages c) o) (λ e. e.place ≡ c.place + 1)
+    stored_at None = tt
+    stored_at (Some m) = refl
+
+    next : (i : Instr) → IfSome (does start i c) (λ e. e.place ≡ c.place + 1)
+    next (Lui rd imm) = refl
+    next (Auipc rd imm) = refl
+    next (Jal rd half_offset) = tt
+    next (Jalr rd rs1 offset) = tt
+    next (Branch op rs1 rs2 half_offset) = tt
+    next (Load op rd rs1 offset) = mapped _ _ (λ n. refl)
+    next (Store op rs1 rs2 offset) = stored_at _
+    next (OpImm op rd rs1 imm) = refl
+    next (Shift op rd rs1 amount) = refl
+    next (Op op rd rs1 rs2) = refl
+    next (MulDiv op rd rs1 rs2) = refl
+    next (Fence high rd) = refl
+    next Ecall = tt
+    next Ebreak = tt

@@ -1,6 +1,6 @@
 -- Where jumps and branches lead.
 use Rattle.std.specs.Prelude.{if◌then◌else◌, slice_get, slice_index, IfSome}
-use Rattle.std.proofs.Common.{◌≡◌, ℕ, suc, ◌+◌, ◌-◌, ◌*◌, ◌%◌, ◌^◌, ◌<◌, ◌≤◌, Bool, true, false, List, length, Some, refl, ap, ◌∙◌, sym, subst, arith}
+use Rattle.std.proofs.Common.{◌≡◌, ℕ, suc, ◌+◌, ◌-◌, ◌*◌, ◌%◌, ◌^◌, ◌<◌, ◌≤◌, Bool, true, false, List, length, Some, None, refl, ap, ◌∙◌, sym, subst, arith}
 use Rattle.std.proofs.lemmas.Bool.Decides.{nat_tests}
 use Rattle.std.proofs.lemmas.Option.{slice_get_within}
 use Rattle.sl_model.specs.declared.instr.BranchOp.{BranchOp}
@@ -16,7 +16,8 @@ use Rattle.word_blocks.specs.Code.{CodeStands}
 use Rattle.word_blocks.specs.Configuration.{Registers, read, write, Configuration, at_place, address, IsAt}
 use Rattle.word_blocks.specs.Jumps.{jump_between, words_further}
 use Rattle.word_blocks.specs.Ways.{Promise, Keeps, Comes, Arrives, Leads}
-use Rattle.word_blocks.proofs.Instructions.{step-execute, bits_of, read-write, Follows, IsAt-next}
+use Rattle.word_blocks.proofs.Instructions.{step-execute, next_store-at, bits_of, read-write, Follows, IsAt-next}
+use Rattle.word_blocks.proofs.Ways.{Leads-step}
 
 -- ---- offsets
 
@@ -106,3 +107,43 @@ module _ (start : ℕ) (code : List Instr) (c : Configuration) (s : State) (stan
       let led : step s ≡ Stepped t = step-execute start code (Branch op rs1 rs2 (words_further count)) c s stands here is ∙ goes in
       let follows : Follows start (at_place (branch_place op rs1 rs2 count) c.registers c.pages) t = record { place = refl; registers = is.registers; pages = is.pages } in
       (t, led, IsAt-next start c _ s t is (within c.place (omega (arith, below))) led follows)
+
+-- ---- as the beginning of a way
+
+module _ (p : Promise) (place limit : ℕ) (x : Registers) (m : Pages) (goal : ℕ → Configuration → Type 0) (holds : p.holds m) (enough : 1 ≤ limit) where
+  -- an instruction that stores nothing, and leads from here to another place
+  pub Leads-further : (instr : Instr) (d : Configuration) → slice_get p.code place ≡ Some instr → ((s : State) → store_by s (Some instr) ≡ None)
+      → ((s : State) → IsAt p.start (at_place place x m) s → (t : State) × (step s ≡ Stepped t) × IsAt p.start d t)
+      → ((left : ℕ) → left + 1 ≡ limit → Leads p left d goal) → Leads p limit (at_place place x m) goal
+  Leads-further instr d here still step_to further =
+      Leads-step p limit (at_place place x m) d goal enough
+      (λ s is. (rw is.pages holds, rw (next_store-at p.start p.code instr (at_place place x m) s (p.stands m holds) here is, still s) tt))
+      step_to further
+
+  pub Leads-jal : (rd to : ℕ) → slice_get p.code place ≡ Some (Jal rd (jump_between place to)) → to ≤ length p.code → to < place + 2 ^ 18 → place ≤ to + 2 ^ 18
+      → ((left : ℕ) → left + 1 ≡ limit → Leads p left (at_place to (write x rd (p.start + 4 * (place + 1))) m) goal) → Leads p limit (at_place place x m) goal
+  Leads-jal rd to here inside near_after near_before =
+      Leads-further (Jal rd (jump_between place to)) (at_place to (write x rd (p.start + 4 * (place + 1))) m) here (λ s. refl)
+      (λ s is. step-jal p.start p.code (at_place place x m) s (p.stands m holds) is rd to here inside near_after near_before)
+
+  pub Leads-jalr : (rd rs1 offset to : ℕ) → slice_get p.code place ≡ Some (Jalr rd rs1 offset) → address x rs1 offset ≡ p.start + 4 * to → to ≤ length p.code
+      → ((left : ℕ) → left + 1 ≡ limit → Leads p left (at_place to (write x rd (p.start + 4 * (place + 1))) m) goal) → Leads p limit (at_place place x m) goal
+  Leads-jalr rd rs1 offset to here at inside =
+      Leads-further (Jalr rd rs1 offset) (at_place to (write x rd (p.start + 4 * (place + 1))) m) here (λ s. refl)
+      (λ s is. step-jalr p.start p.code (at_place place x m) s (p.stands m holds) is rd rs1 offset to here at inside)
+
+  -- a branch whose condition holds
+  pub Leads-taken : (op : BranchOp) (rs1 rs2 count : ℕ) → slice_get p.code place ≡ Some (Branch op rs1 rs2 (words_further count)) → count < 2 ^ 10 → place + count ≤ length p.code
+      → is_taken op (read x rs1) (read x rs2) ≡ true
+      → ((left : ℕ) → left + 1 ≡ limit → Leads p left (at_place (place + count) x m) goal) → Leads p limit (at_place place x m) goal
+  Leads-taken op rs1 rs2 count here near inside taken =
+      Leads-further (Branch op rs1 rs2 (words_further count)) (at_place (place + count) x m) here (λ s. refl)
+      (λ s is. rw taken at (step-branch p.start p.code (at_place place x m) s (p.stands m holds) is op rs1 rs2 count here near inside))
+
+  -- a branch whose condition does not hold
+  pub Leads-passed : (op : BranchOp) (rs1 rs2 count : ℕ) → slice_get p.code place ≡ Some (Branch op rs1 rs2 (words_further count)) → count < 2 ^ 10 → place + count ≤ length p.code
+      → is_taken op (read x rs1) (read x rs2) ≡ false
+      → ((left : ℕ) → left + 1 ≡ limit → Leads p left (at_place (place + 1) x m) goal) → Leads p limit (at_place place x m) goal
+  Leads-passed op rs1 rs2 count here near inside passed =
+      Leads-further (Branch op rs1 rs2 (words_further count)) (at_place (place + 1) x m) here (λ s. refl)
+      (λ s is. rw passed at (step-branch p.start p.code (at_place place x m) s (p.stands m holds) is op rs1 rs2 count here near inside))

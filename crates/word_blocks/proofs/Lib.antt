@@ -2,3 +2,5 @@ pub mod Instructions
 pub mod Ways
 pub mod Blocks
 pub mod Jumps
+pub mod Ends
+pub mod Following

@@ -1,6 +1,6 @@
 -- Runs that keep a promise: one after the other, what they are as steps of the machine, and what
 -- configurations they lead to.
-use Rattle.std.proofs.Common.{◌≡◌, ℕ, zero, suc, ◌+◌, ◌<◌, refl, ap, ◌∙◌, sym, subst, arith}
+use Rattle.std.proofs.Common.{◌≡◌, ℕ, zero, suc, ◌+◌, ◌-◌, ◌<◌, ◌≤◌, refl, ap, ◌∙◌, sym, subst, arith}
 use Rattle.sl_model.specs.State.{State}
 use Rattle.sl_model.specs.Step.{Stepped, step}
 use Rattle.sl_model.specs.Runs.{next_state, steps}
@@ -75,3 +75,21 @@ module _ (p : Promise) where
   -- what is reached says more than is wanted
   pub Leads-map : (limit : ℕ) (c : Configuration) (strong goal : ℕ → Configuration → Type 0) → Leads p limit c strong → ((left : ℕ) (d : Configuration) → strong left d → goal left d) → Leads p limit c goal
   Leads-map limit c strong goal way weaker = Leads-then limit c strong goal way (λ left d reached. Leads-stay left d goal (weaker left d reached))
+
+  -- a step as the beginning of a way
+  pub Leads-step : (limit : ℕ) (c d : Configuration) (goal : ℕ → Configuration → Type 0) → 1 ≤ limit
+      → ((s : State) → IsAt p.start c s → Keeps p s) → ((s : State) → IsAt p.start c s → (t : State) × (step s ≡ Stepped t) × IsAt p.start d t)
+      → ((left : ℕ) → left + 1 ≡ limit → Leads p left d goal) → Leads p limit c goal
+  Leads-step limit c d goal enough keeps leads further s is =
+      let next = leads s is in
+      let whole : Arrives p (limit - 1) goal next.0 = further (limit - 1) (omega arith) next.0 next.2 in
+      record {
+        steps = suc whole.steps;
+        left = whole.left;
+        counted = omega (arith, whole.counted);
+        state = whole.state;
+        comes = (keeps s is, next.0, next.1, whole.comes);
+        configuration = whole.configuration;
+        is_at = whole.is_at;
+        reached = whole.reached;
+      }

@@ -4,4 +4,4 @@
 
 mod laws;
 
-pub use laws::instructions_are_steps;
+pub use laws::{blocks_are_run, instructions_are_steps, jumps_are_taken, runs_end};
