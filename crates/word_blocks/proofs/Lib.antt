@@ -1,4 +1,5 @@
 pub mod Instructions
+pub mod Bytes
 pub mod Ways
 pub mod Blocks
 pub mod Jumps
