@@ -1,5 +1,6 @@
 pub mod Instructions
 pub mod Bytes
+pub mod CodeLaws
 pub mod Ways
 pub mod Blocks
 pub mod Jumps
