@@ -39,7 +39,7 @@ Does p place (Load op rd rs1 offset ∷ rest) x m goal =
     × Does p (place + 1) rest (write x rd (load_value op n)) m goal
 Does p place (Store op rs1 rs2 offset ∷ rest) x m goal =
     (at : ℕ) × (address x rs1 offset ≡ at)
-    × p.may_store at (store_width op) × IsSome (load_at m at (store_width op))
+    × p.may_store m (at, store_width op) × IsSome (load_at m at (store_width op))
     × ((m' : Pages) → IsStored at (store_width op) (read x rs2) m m' → ArePages m'
     → p.holds m' × Does p (place + 1) rest x m' goal)
 Does p place (OpImm op rd rs1 imm ∷ rest) x m goal =
@@ -70,14 +70,14 @@ module _ (p : Promise) where
   -- one instruction, and the others after it
   passed : (place n : ℕ) (instr : Instr) (x y : Registers) (m m' : Pages) (goal : Registers → Pages → Type 0) (s : State)
       → p.holds m → slice_get p.code place ≡ Some instr → IsAt p.start (at_place place x m) s
-      → IfSome (store_by s (Some instr)) (λ at. p.may_store at.0 at.1)
+      → IfSome (store_by s (Some instr)) (p.may_store m)
       → does p.start instr (at_place place x m) ≡ Some (at_place (place + 1) y m')
       → ((t : State) → IsAt p.start (at_place (place + 1) y m') t → Passed p n (place + 1) goal t)
       → Passed p (suc n) place goal s
   passed place n instr x y m m' goal s holds here is may done rest =
       let stands : CodeStands p.start p.code m = p.stands m holds in
       let led = step-does p.start p.code instr (at_place place x m) (at_place (place + 1) y m') s stands here is done in
-      let keeps : Keeps p s = (rw is.pages holds, rw (next_store-at p.start p.code instr (at_place place x m) s stands here is) may) in
+      let keeps : Keeps p s = (rw is.pages holds, rw (next_store-at p.start p.code instr (at_place place x m) s stands here is, is.pages) may) in
       let after : Passed p n (place + 1) goal led.0 = rest led.0 led.2 in
       let further : place + 1 + n ≡ place + suc n = omega arith in
       record {

@@ -5,4 +5,5 @@ pub mod Ways
 pub mod Blocks
 pub mod Jumps
 pub mod Ends
+pub mod PuttingBack
 pub mod Following

@@ -10,18 +10,18 @@ use Rattle.word_blocks.specs.Configuration.{Configuration, IsAt}
 use Rattle.word_blocks.specs.Code.{CodeStands}
 
 -- What is kept at every step while code runs: memory is as it is to be, so that the code stands in
--- it, and a store of so many bytes at an address lies where it may.
+-- it, and the address and the width of a store are such as they may be.
 pub record Promise : Type 1 where
   -- the address of the code's first word
   pub start : ℕ
   pub code : List Instr
   pub holds : Pages → Type 0
-  pub may_store : ℕ → ℕ → Type 0
+  pub may_store : Pages → ℕ × ℕ → Type 0
   pub stands : (pages : Pages) → holds pages → CodeStands start code pages
 
 -- a state keeps a promise, before its next step
 abbrev pub Keeps : Promise → State → Type 0
-Keeps p s = p.holds s.pages × IfSome (next_store s) (λ at. p.may_store at.0 at.1)
+Keeps p s = p.holds s.pages × IfSome (next_store s) (p.may_store s.pages)
 
 -- in so many steps from one state to another, with the promise kept before each of them
 abbrev pub Comes : Promise → ℕ → State → State → Type 0
