@@ -1,11 +1,12 @@
 -- What fires, as the code finds it.
-use Rattle.std.proofs.Common.{◌≡◌, ℕ, zero, suc, ◌+◌, ◌-◌, ◌<◌, ◌≤◌, ◌%◌, Bool, true, false, cond, List, [], ◌∷◌, ◌++◌, length, map, Some, None, refl, arith, sym, ap, ◌∙◌}
-use Rattle.std.specs.Prelude.{Option, IfSome, All, ◌==◌, ◌||◌, nat_lt, nat_le, slice_index_or}
+use Rattle.std.proofs.Common.{◌≡◌, ℕ, zero, suc, ◌+◌, ◌-◌, ◌<◌, ◌≤◌, ◌%◌, Bool, true, false, cond, List, [], ◌∷◌, ◌++◌, length, map, Some, None, refl, arith, sym, ap, ◌∙◌, append-nil}
+use Rattle.std.specs.Prelude.{Option, IfSome, ◌==◌, not, nat_lt, nat_le}
 use Rattle.std.specs.List.{list_any, filter, range_with_len}
 use Rattle.std.proofs.lemmas.Bool.Decides.{nat_tests}
 use Rattle.std.proofs.lemmas.List.Folds.{list_any_at, list_any_none}
 use Rattle.std.proofs.lemmas.List.FromFn.{length-range_with_len, get_or-range_with_len}
-use Rattle.std.proofs.lemmas.List.Elements.{filter-append, All-tail}
+use Rattle.std.proofs.lemmas.List.Elements.{filter-append}
+use Rattle.std.proofs.lemmas.List.Filters.{length-filter_both}
 use Rattle.sl_model.specs.declared.instr.Instr.{Instr}
 use Rattle.sl_model.specs.declared.instr.Instr.TheVariants as instr
 use Rattle.sl_model.specs.declared.instr.StoreOp.{StoreOp}
@@ -17,12 +18,10 @@ use Rattle.sl_model.specs.Arithmetic.{store_width}
 use Rattle.sl_model.specs.State.{State}
 use Rattle.sl_model.specs.NextStore.{next_store, store_by}
 use Rattle.tracer_lang.specs.declared.tree.Point.{Point}
-use Rattle.tracer_lang.specs.declared.tree.Point.TheVariants.{Addr, Enter, Store}
 use Rattle.tracer_lang.specs.declared.tree.Tracepoint.{Tracepoint}
 use Rattle.tracer_lang.specs.Tree.{TracepointTree, tracepoint_of}
-use Rattle.tracer_lang.specs.Firing.{is_among, fires, firing}
-use Rattle.tracepoints.specs.declared.filter.Filter.{Filter}
-use Rattle.tracepoints.specs.Filters.{is_marked, IsCaught, may_fire}
+use Rattle.tracer_lang.specs.Firing.{is_among, fires_at}
+use Rattle.tracepoints.specs.Chains.{point_at}
 
 -- ---- bytes in common
 
@@ -133,50 +132,6 @@ next_store-wide s = wide_if s (s.pc % 4 == 0)
 
 -- ---- points
 
-never_first : (a b : Bool) → a ≡ true → (a || b) ≡ false → ⊥
-never_first true b e quiet = cc
-never_first false b e quiet = cc
-
-never_second : (a b : Bool) → b ≡ true → (a || b) ≡ false → ⊥
-never_second true b e quiet = cc
-never_second false b e quiet = cc
-
-silent_if : (f : Filter) (pc address : ℕ) (b : Bool) → (pc == address) ≡ b
-    → is_marked f address ≡ true → may_fire f pc ≡ false → b ≡ false
-silent_if f pc address false e marked quiet = refl
-silent_if f pc address true e marked quiet =
-    let same : pc ≡ address = grind (arith, nat_tests) in
-    let at : is_marked f pc ≡ true = rw same marked in
-    absurd (never_second f.stores (is_marked f pc) at quiet)
-
-silent_at : (f : Filter) (pc address : ℕ) → is_marked f address ≡ true → may_fire f pc ≡ false
-    → (pc == address) ≡ false
-silent_at f pc address marked quiet = silent_if f pc address (pc == address) refl marked quiet
-
--- whether a point fires is not lost by the filter
-caught_or_silent : (f : Filter) (s : State) (point : Point) → IsCaught f point
-    → may_fire f s.pc ≡ false → fires s point ≡ false
-caught_or_silent f s (Addr address) is quiet = silent_at f s.pc address is quiet
-caught_or_silent f s (Enter address) is quiet = silent_at f s.pc address is quiet
-caught_or_silent f s (Store address len) is quiet = absurd (never_first f.stores _ is quiet)
-
-all_silent : {X : Type 0} (p : X → Bool) (xs : List X) → All (λ x. p x ≡ false) xs
-    → filter p xs ≡ []
-all_silent p [] none = refl
-all_silent p (x ∷ xs) none =
-    rw (none 0 x (omega arith)) (all_silent p xs (All-tail (λ y. p y ≡ false) x xs none))
-
--- nothing fires that the filter passes over
-pub passed_over : (f : Filter) (points : List Point) (s : State) → All (IsCaught f) points
-    → may_fire f s.pc ≡ false → firing points s ≡ []
-passed_over f points s caught quiet =
-    all_silent _ (range_with_len 0 (length points)) (λ i d within.
-    let inside : i < length points = rw (length-range_with_len 0 (length points)) at within in
-    let number : slice_index_or (range_with_len 0 (length points)) i d ≡ i =
-    get_or-range_with_len 0 (length points) i d inside ∙ omega arith in
-    rw number (caught_or_silent f s (slice_index_or points i (Addr 0)) (caught i (Addr 0) inside)
-    quiet))
-
 range_more : (a n : ℕ) → range_with_len a (suc n) ≡ range_with_len a n ++ (a + n) ∷ []
 range_more a zero = let e : a + 0 ≡ a = omega arith in rw e refl
 range_more a (suc n) =
@@ -184,21 +139,47 @@ range_more a (suc n) =
     ap (λ xs. a ∷ xs) (range_more (a + 1) n ∙ rw e refl)
 
 -- the points that fire among the first ones
-abbrev pub firing_below : List Point → State → ℕ → List ℕ
-firing_below points s n =
-    filter (λ i. fires s (slice_index_or points i (Addr 0))) (range_with_len 0 n)
+abbrev pub firing_below : List Point → ℕ → Option (ℕ × ℕ) → ℕ → List ℕ
+firing_below points pc store n =
+    filter (λ i. fires_at pc store (point_at points i)) (range_with_len 0 n)
 
-pub firing_more : (points : List Point) (s : State) (n : ℕ) (b : Bool)
-    → fires s (slice_index_or points n (Addr 0)) ≡ b
-    → firing_below points s (n + 1) ≡ firing_below points s n ++ cond b (n ∷ []) []
-firing_more points s n b e =
-    let p : ℕ → Bool = λ i. fires s (slice_index_or points i (Addr 0)) in
+pub firing_more : (points : List Point) (pc : ℕ) (store : Option (ℕ × ℕ)) (n : ℕ) (b : Bool)
+    → fires_at pc store (point_at points n) ≡ b
+    → firing_below points pc store (n + 1)
+    ≡ firing_below points pc store n ++ cond b (n ∷ []) []
+firing_more points pc store n b e =
+    let p : ℕ → Bool = λ i. fires_at pc store (point_at points i) in
     let next : 0 + n ≡ n = omega arith in
     let longer : n + 1 ≡ suc n = omega arith in
     ap (λ m. filter p (range_with_len 0 m)) longer
     ∙ ap (filter p) (range_more 0 n)
     ∙ filter-append p (range_with_len 0 n) ((0 + n) ∷ [])
     ∙ rw (next, e) refl
+
+-- points that do not fire are passed over
+pub firing_skip : (points : List Point) (pc : ℕ) (store : Option (ℕ × ℕ)) (n d : ℕ)
+    → ((i : ℕ) → n ≤ i → i < n + d → fires_at pc store (point_at points i) ≡ false)
+    → firing_below points pc store (n + d) ≡ firing_below points pc store n
+firing_skip points pc store n zero quiet =
+    let e : n + 0 ≡ n = omega arith in
+    ap (firing_below points pc store) e
+firing_skip points pc store n (suc d) quiet =
+    let e : n + suc d ≡ n + d + 1 = omega arith in
+    ap (firing_below points pc store) e
+    ∙ firing_more points pc store (n + d) false (quiet (n + d) (omega arith) (omega arith))
+    ∙ append-nil _
+    ∙ firing_skip points pc store n d (λ i low high. quiet i low (omega (arith, high)))
+
+-- no more fire than there are
+pub length-firing_below : (points : List Point) (pc : ℕ) (store : Option (ℕ × ℕ)) (n : ℕ)
+    → length (firing_below points pc store n) ≤ n
+length-firing_below points pc store n =
+    let p : ℕ → Bool = λ i. fires_at pc store (point_at points i) in
+    omega (
+      arith,
+      length-filter_both p (λ i. not (p i)) (λ i. refl) (range_with_len 0 n),
+      length-range_with_len 0 n,
+    )
 
 -- ---- the points of a script
 

@@ -1,1 +1,4 @@
 pub mod Firing
+pub mod Soonest
+pub mod Chains
+pub mod Walks

@@ -1,7 +1,7 @@
 //! Which tracepoints of a script fire before an instruction.
 #![tactic(auto)]
 
-mod filter;
+mod chain;
 mod fired;
 mod points;
 #[cfg(test)]

@@ -1,6 +1,6 @@
-//! Points at a store, at its address and in its range, worked by hand.
+//! Points at a store, at its address and in its range, and their order, worked by hand.
 
-ghost use Rattle.std.specs.Prelude.{◌≡◌, length, IfOk};
+ghost use Rattle.std.specs.Prelude.{◌≡◌, All};
 ghost use Rattle.tracer_lang.specs.Limits.{FitsPoint};
 
 use crate::{Fired, Points};
@@ -35,17 +35,26 @@ fn before_store(alloc: Global) -> Result<(Machine, Frames), Memory> {
     Ok((machine, frames))
 }
 
-/// A script of one tracer that does nothing.
-fn script_at(alloc: Global, point: Point) -> Result<Script, AllocError>
-    requires { FitsPoint point }
-    ensures { IfOk result (λ script. length script.tracepoints ≡ 1) }
+/// A tracer that does nothing.
+fn tracer_at(point: Point) -> Tracepoint
+    ensures { result ≡ record { point = point; locals = 0; body = Block.End } }
 {
-    let mut tracepoints = Seq::new(alloc);
-    tracepoints.push(Tracepoint {
+    Tracepoint {
         point,
         locals: 0,
         body: Block::End,
-    })?;
+    }
+}
+
+/// A script of three tracers that do nothing.
+fn script_at(alloc: Global, points: [Point; 3]) -> Result<Script, AllocError>
+    requires { All FitsPoint points }
+{
+    let [first, second, third] = points;
+    let mut tracepoints = Seq::new(alloc);
+    tracepoints.push(tracer_at(first))?;
+    tracepoints.push(tracer_at(second))?;
+    tracepoints.push(tracer_at(third))?;
     Ok(Script {
         budget: 1,
         functions: Seq::new(alloc),
@@ -53,16 +62,24 @@ fn script_at(alloc: Global, point: Point) -> Result<Script, AllocError>
     })
 }
 
-/// Whether a point fires at the store, whose memory is not mapped.
-fn fires(alloc: Global, point: Point) -> Result<bool, Memory>
-    requires { FitsPoint point }
+/// Which of three points fire at the store, whose memory is not mapped.
+fn firing(alloc: Global, points: [Point; 3]) -> Result<Fired, Memory>
+    requires { All FitsPoint points }
 {
-    let script = script_at(alloc, point)?;
+    let script = script_at(alloc, points)?;
     let (m, f) = before_store(alloc)?;
     let points = Points::new(alloc, &script)?;
     let mut out = Fired::new();
     points.fires(&m, &f, &mut out);
-    Ok(out.as_slice() == [0].as_slice())
+    Ok(out)
+}
+
+/// Whether a point fires there, after two that don't.
+fn fires(alloc: Global, point: Point) -> Result<bool, Memory>
+    requires { FitsPoint point }
+{
+    let out = firing(alloc, [Point::Addr(0), Point::Enter(0), point])?;
+    Ok(out.as_slice() == [2].as_slice())
 }
 
 #[test]
@@ -88,5 +105,23 @@ fn fires_where_it_stands(rt: HostRuntime) -> Result<(), Fail> {
         let got = fires(rt.alloc(), Point::Store { address, len })?;
         assert!(rt; got == want, "at {address} for {len}");
     }
+    Ok(())
+}
+
+#[test]
+fn fires_in_the_order_of_the_script(rt: HostRuntime) -> Result<(), Fail> {
+    let here = Point::Addr(0x10010);
+    let entry = Point::Enter(0x10010);
+    let there = Point::Addr(0x10014);
+    let range = Point::Store {
+        address: 0x11005,
+        len: 1,
+    };
+    let out = firing(rt.alloc(), [here, here, entry])?;
+    assert!(rt; out.as_slice() == [0, 1, 2].as_slice());
+    let out = firing(rt.alloc(), [here, range, entry])?;
+    assert!(rt; out.as_slice() == [0, 1, 2].as_slice());
+    let out = firing(rt.alloc(), [range, there, here])?;
+    assert!(rt; out.as_slice() == [0, 2].as_slice());
     Ok(())
 }
