@@ -3,6 +3,7 @@
 use crate::read_words;
 use sl_base::Refused;
 use std::alloc::Global;
+use std::process::Abort;
 use std::test::Fail;
 
 /// Words with one blank between two, and behind `=>` the command that they name, or nothing.
@@ -75,8 +76,251 @@ gen 0 1 => Gen { seed: 0, size: 1 }
 gen 4294967296 1 =>
 gen 0 1000001 =>
 gen 0 0 =>
+gen 0000000000000 0000000000001 => Gen { seed: 0, size: 1 }
+gen 00000000000000 1 =>
+gen 0 00000000000001 =>
+gen 9999999999999 1 =>
+gen 0 9999999999999 =>
+gen -1 1 =>
+gen -- -1 1 =>
+gen 0x1 1 =>
+gen 0  =>
+gen 0 =>
+show a.elf 12345678 0000000000001 => Show { image: "a.elf", address: 305419896, lines: 1, flat: None }
+show a.elf 0x123456789 1 =>
+show a.elf 0 00000000000001 =>
+show a.elf 0 1 1 =>
+show -- -a -1 1 =>
+replay -a.rec =>
+replay --a.rec =>
+replay -- -a.rec => Replay { recording: "-a.rec" }
+check - => Check { recording: "-" }
+check -- -- => Check { recording: "--" }
+record -- -a.elf --b.rec => Record { image: "-a.elf", output: "--b.rec", options: RecordOptions { flat: None, limit: 1000000000, every: 1000000, arguments: [] } }
+record --arg  a.elf b.rec => Record { image: "a.elf", output: "b.rec", options: RecordOptions { flat: None, limit: 1000000000, every: 1000000, arguments: [""] } }
+record --arg a.elf b.rec =>
+trace --analyse a.rec at 0 => Trace { recording: "at", script: "0", options: TraceOptions { workers: 1, epochs: None, analyses: ["a.rec"] } }
+trace a.rec at -- -1 =>
+-replay a.rec =>
+- a.rec =>
+-- replay a.rec =>
+ replay a.rec =>
 --help =>
  =>"#;
+
+/// Commands, each with plain words that it takes, and two words that name no command.
+const COMMANDS: [(&str, &str); 11] = [
+    ("trace", "a.rec b.sl"),
+    ("trace", "a.rec at 10008"),
+    ("replay", "a.rec"),
+    ("check", "a.rec"),
+    ("record", "a.elf b.rec"),
+    ("recut", "a.rec b.rec"),
+    ("asm", "a.s b.elf"),
+    ("show", "a.elf 10000 3"),
+    ("gen", "0 2"),
+    ("Gen", "0 2"),
+    ("", "0 2"),
+];
+
+/// What stands behind a command, with `*` for its plain words, and behind `=>` the commands that
+/// take this. All others refuse it.
+const WORDS: &str = "\
+* => trace replay check record recut asm show gen
+-- * => trace replay check record recut asm show gen
+* -- => trace replay check record recut asm show gen
+* x =>
+*  =>
+* - =>
+- * =>
+* -- -- =>
+* -- - =>
+* -- -x =>
+-* =>
+--* =>
+-- -* => trace replay check record recut asm show
+* -x =>
+-x * =>
+* -x=1 =>
+* --- =>
+* ---x =>
+* ---x 2 =>
+* --= =>
+* --=2 =>
+* --x =>
+* --x 2 =>
+* --x=2 =>
+* --help =>
+* -h =>
+* --workers 2 => trace
+--workers 2 * => trace
+* --workers=2 => trace
+--workers=2 -- * => trace
+* -- --workers 2 =>
+-- --workers=2 * =>
+* --workers 2 --workers 2 =>
+* --workers=2 --workers=2 =>
+--workers 2 * --workers=3 =>
+* --workers =>
+* --workers= =>
+* --workers  =>
+* --workers - =>
+* --workers -- =>
+* --workers -- 2 =>
+* --workers -2 =>
+* --workers=-2 =>
+* --workers==2 =>
+* --workers --epochs=2 =>
+* --workers 1 => trace
+* --workers 16 => trace
+* --workers 0 =>
+* --workers 17 =>
+* --workers 1x =>
+* --workers 0x2 =>
+* --workers +2 =>
+* --workers 0000000000016 => trace
+* --workers 00000000000016 =>
+* --workers 9999999999999 =>
+* --workers 99999999999999 =>
+* --worker 2 =>
+* --workers2 =>
+* --Workers 2 =>
+* -workers 2 =>
+* -workers=2 =>
+* --epochs 7 => trace
+--epochs=7 * => trace
+* --epochs 7 --workers=2 => trace
+* --epochs 7 --epochs 7 =>
+* --epochs=7 --epochs=7 =>
+--epochs=7 * --epochs 8 =>
+* --epochs =>
+* --epochs= =>
+* --epochs  =>
+* --epochs - =>
+* --epochs -- =>
+* --epochs -7 =>
+* --epochs=-7 =>
+* --epochs --workers 2 =>
+* --epochs 1 => trace
+* --epochs 4096 => trace
+* --epochs 0 =>
+* --epochs 4097 =>
+* --epochs 0x7 =>
+* --epochs 0000000004096 => trace
+* --epochs 00000000004096 =>
+* --epochs 9999999999999 =>
+* --epoch 7 =>
+* --analyse all => trace
+--analyse=all * => trace
+* --analyse all --analyse all --analyse=mean => trace
+* --analyse=-all => trace
+* --analyse=- => trace
+* --analyse=-- => trace
+* --analyse== => trace
+* --analyse=word=0:1 => trace
+* --analyse =>
+* --analyse= =>
+* --analyse  =>
+* --analyse=all --analyse =>
+* --analyse=all --analyse= =>
+--analyse= * --analyse=all =>
+* --analyse - =>
+* --analyse -- =>
+* --analyse -all =>
+* --analyse --workers =>
+* --analyse all count =>
+* --analyze all =>
+* --flat 10000 => record show
+--flat 10000 * => record show
+* --flat=0x10000 => record show
+* --flat 12345678 => record show
+* --flat 0xFFFFffff => record show
+* --flat 10000 --flat 10000 =>
+* --flat=10000 --flat=10000 =>
+--flat 10000 * --flat=0 =>
+* --flat =>
+* --flat= =>
+* --flat  =>
+* --flat - =>
+* --flat -- =>
+* --flat -1 =>
+* --flat=-1 =>
+* --flat 123456789 =>
+* --flat 0x123456789 =>
+* --flat 000010000 =>
+* --flat 0x =>
+* --flat 0X1 =>
+* --flat 1g =>
+* --flat +1 =>
+* --limit 1 => record
+--limit 1 * => record
+* --limit=1099511627776 => record
+* --limit 1 --limit 1 =>
+* --limit=1 --limit=1 =>
+--limit 1 * --limit=2 =>
+* --limit =>
+* --limit= =>
+* --limit  =>
+* --limit - =>
+* --limit -- =>
+* --limit -1 =>
+* --limit=-1 =>
+* --limit 0 =>
+* --limit 1099511627777 =>
+* --limit 9999999999999 =>
+* --limit 01099511627776 =>
+* --limit 1e3 =>
+* --every 1 => record recut
+--every 1 * => record recut
+* --every=1099511627776 => record recut
+* --every 1 --every 1 =>
+* --every=1 --every=1 =>
+--every 1 * --every=2 =>
+* --every =>
+* --every= =>
+* --every  =>
+* --every - =>
+* --every -- =>
+* --every -1 =>
+* --every=-1 =>
+* --every 0 =>
+* --every 1099511627777 =>
+* --every 01099511627776 =>
+* --every 1,000 =>
+* --every 1 --limit 1 => record
+* --every 1 --flat 0 => record
+* --arg a => record
+--arg a * => record
+* --arg=a => record
+* --arg=a=b => record
+* --arg a=b => record
+* --arg= => record
+* --arg  => record
+* --arg=- => record
+* --arg=-- => record
+* --arg=-a => record
+* --arg=--arg => record
+* --arg== => record
+* --arg a --arg a => record
+* --arg= --arg= => record
+* --arg=a --arg  --arg=--arg --arg b => record
+* --arg =>
+* --arg a --arg =>
+* --arg - =>
+* --arg -- =>
+* --arg -a =>
+* --arg -- a =>
+* --arg --arg =>
+* --arg --arg a =>
+* --arg --arg=a =>
+* --arg a b =>
+* --arg=a b =>
+* --args a =>
+* --arga =>
+* -arg a =>
+* -arg=a =>
+* --Arg a =>
+";
 
 /// The words of a text with one blank between two. Two blanks have an empty word between them.
 fn words_of(alloc: Global, text: &str) -> Result<Vec<String>, Fail> {
@@ -107,6 +351,29 @@ fn rows(rt: HostRuntime) -> Result<(), Fail> {
     }
     let none: [String; 0] = [];
     assert!(rt; order_of(alloc, &none)?.is_empty());
+    Ok(())
+}
+
+/// Checks which commands take what a row of `WORDS` has behind them.
+fn check_row<R: Abort>(rt: &R, alloc: Global, row: &str) -> Result<(), Fail> {
+    let (words, takers) = row.split_once(" =>").ok_or("no row")?;
+    let (front, back) = words.split_once('*').ok_or("no plain words")?;
+    for (command, plain) in COMMANDS {
+        let text = format!(in alloc; "{command} {front}{plain}{back}")?;
+        let is_taken = read_words(alloc, &words_of(alloc, text.as_str())?).is_ok();
+        let is_taker = !command.is_empty() && takers.contains(command);
+        assert_eq!(rt; is_taken, is_taker, "{text}");
+    }
+    Ok(())
+}
+
+/// Each option in each command: once, doubled, without a value, with an empty one and with wrong
+/// ones; and words that begin with a dash.
+#[test]
+fn words_in_each_command(rt: HostRuntime) -> Result<(), Fail> {
+    for row in WORDS.lines() {
+        check_row(&rt, rt.alloc(), row)?;
+    }
     Ok(())
 }
 
