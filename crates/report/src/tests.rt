@@ -5,7 +5,7 @@ use analysers::{Merged, Row, read_kind};
 use call_log::{Break, BreakKind, End};
 use elf_image::{ImageCause, ImageFault};
 use rec_format::{RecCause, RecFault};
-use sl_base::{MemorySink, Seq};
+use sl_base::{MemorySink, Seq, Sink, SinkFailed};
 use std::alloc::Global;
 use std::test::Fail;
 use tracer_lang::{Record, TracerEnd};
@@ -147,6 +147,48 @@ fn broken_replays(rt: HostRuntime) -> Result<(), Fail> {
             "sledge: replay broken at count 3: call 1 is left\n"
         )?
     );
+    Ok(())
+}
+
+/// A sink that takes one byte at a time.
+#[derive(Drop)]
+struct NarrowSink {
+    sink: MemorySink,
+}
+
+impl Sink for NarrowSink {
+    ghost use Rattle.std.specs.Prelude.{None};
+
+    ghost written = { λ _. None };
+
+    ghost faults = { λ narrow. narrow.sink.plan.faults };
+
+    fn write(&mut self, piece: &[u8]) -> Result<usize, SinkFailed> {
+        self.sink.write(&piece[..1])
+    }
+}
+
+/// A line comes up to the byte whose write fails, or whole where that is past its end.
+#[test]
+fn one_byte_at_a_time(rt: HostRuntime) -> Result<(), Fail> {
+    let alloc = rt.alloc();
+    let rows: [(u32, &[u8]); 7] = [
+        (1, b""),
+        (2, b"s"),
+        (9, b"sledge: "),
+        (18, b"sledge: analysis "),
+        (19, b"sledge: analysis 2"),
+        (27, b"sledge: analysis 2 is none"),
+        (28, b"sledge: analysis 2 is none\n"),
+    ];
+    for (failing, line) in rows {
+        let sink = MemorySink::new(alloc, 200, vec![in alloc; failing]?)?;
+        let mut err = NarrowSink { sink };
+        let status = Status::Refused(Refusal::AnalysisRefused(2));
+        let is_whole = write_fault(&mut err, &status).is_ok();
+        assert_eq!(rt; is_whole, failing == 28);
+        assert_eq!(rt; err.sink.bytes(), line);
+    }
     Ok(())
 }
 

@@ -69,14 +69,14 @@ impl<'a> Epochs for PlanEpochs<'a> {
 }
 
 /// How many epochs a plan has.
-fn count_of(plan: &Plan) -> u32
+pub fn count_of(plan: &Plan) -> u32
     ensures { length (values_of plan.now) ≡ result }
 {
     plan.epochs()
 }
 
 /// The posts of all epochs of a plan, by so many workers in threads of their own.
-fn posts_of<R: Threads + Sync, G: Gate>(
+pub fn posts_of<R: Threads + Sync, G: Gate>(
     rt: &R,
     alloc: Global,
     plan: &Plan,

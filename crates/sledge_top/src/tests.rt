@@ -2,10 +2,12 @@
 
 mod analyses;
 mod assembled;
+mod epochs;
 mod generates;
 mod recorded;
 mod recordings;
 mod refusals;
+mod rows;
 mod running;
 mod scripts;
 mod shows;

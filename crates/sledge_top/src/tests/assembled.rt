@@ -34,7 +34,7 @@ fn check<R: Threads + Sync + Abort>(
     Ok(())
 }
 
-const DIVISIONS: &str = "\
+pub const DIVISIONS: &str = "\
 li t0, 0x80000000
 li t1, -1
 div a0, t0, t1

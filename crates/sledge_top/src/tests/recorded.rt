@@ -10,7 +10,11 @@ use std::test::Fail;
 use std::thread::Threads;
 
 /// A store with these files, whose calls with these numbers fail.
-fn store_with(alloc: Global, rows: &[(&str, &[u8])], failing: &[u32]) -> Result<MemoryStore, Fail> {
+pub fn store_with(
+    alloc: Global,
+    rows: &[(&str, &[u8])],
+    failing: &[u32],
+) -> Result<MemoryStore, Fail> {
     let mut files = Vec::new(alloc);
     for (name, bytes) in rows {
         files.push((String::from_str(alloc, name)?, bytes.to_vec(alloc)?))?;
@@ -20,7 +24,7 @@ fn store_with(alloc: Global, rows: &[(&str, &[u8])], failing: &[u32]) -> Result<
 
 /// Runs commands one after the other over a store and a world. Each row is the words of a command,
 /// and then the number that it ends with and what it writes, with `|` for each line feed.
-fn run_all<R: Threads + Sync + Abort>(
+pub fn run_all<R: Threads + Sync + Abort>(
     rt: &R,
     alloc: Global,
     store: &mut MemoryStore,
@@ -41,12 +45,12 @@ fn run_all<R: Threads + Sync + Abort>(
 }
 
 /// The bytes of a file in a store.
-fn bytes_of(alloc: Global, store: &MemoryStore, name: &str) -> Result<Vec<u8>, Fail> {
+pub fn bytes_of(alloc: Global, store: &MemoryStore, name: &str) -> Result<Vec<u8>, Fail> {
     Ok(store.file(name).ok_or("no file")?.to_vec(alloc)?)
 }
 
 /// The recording in a file of a store.
-fn recording_in(alloc: Global, store: &MemoryStore, name: &str) -> Result<Recording, Fail> {
+pub fn recording_in(alloc: Global, store: &MemoryStore, name: &str) -> Result<Recording, Fail> {
     match read_recording(alloc, store.file(name).ok_or("no file")?) {
         Ok(rec) => Ok(rec),
         Err(_) => Err("no recording".into()),
@@ -54,7 +58,7 @@ fn recording_in(alloc: Global, store: &MemoryStore, name: &str) -> Result<Record
 }
 
 /// Loads 5 into a0 and exits.
-const EXITS: &str = "00500513 05d00893 73";
+pub const EXITS: &str = "00500513 05d00893 73";
 
 /// Programs that end in each way, and recordings that are cut anew.
 const COMMANDS: &str = "\
@@ -117,7 +121,7 @@ fn puts_that_fail(rt: HostRuntime) -> Result<(), Fail> {
 }
 
 /// A program as a small C library makes it.
-const LIBRARY: &str = "\
+pub const LIBRARY: &str = "\
 _start: li a0, 1
 la a1, buf
 li a7, 80
@@ -206,7 +210,7 @@ fn checkpoints_at(rec: &Recording) -> usize {
 }
 
 /// Checks that a recording with some of its bytes changed is refused.
-fn check_changed<R: Threads + Sync + Abort>(
+pub fn check_changed<R: Threads + Sync + Abort>(
     rt: &R,
     alloc: Global,
     bytes: &[u8],

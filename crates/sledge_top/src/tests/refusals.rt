@@ -1,10 +1,10 @@
 //! Refusals by words and files, and outputs that fail.
 
 use super::recordings::recording;
-use super::running::{store_of, tells, words_of};
-use super::traces::EXITS;
+use super::running::{store_of, tells, told_in, words_of};
+use super::traces::{EXITS, filled};
 use crate::sledge;
-use sl_base::{GetFault, MemorySink, MemoryStore, MemoryWorld, NoGate, PutFault, Store};
+use sl_base::{GetFault, MemorySink, MemoryWorld, NoGate, PutFault, Store};
 use std::alloc::Global;
 use std::test::Fail;
 
@@ -132,37 +132,41 @@ fn files_that_are_not_got(rt: HostRuntime) -> Result<(), Fail> {
     Ok(())
 }
 
-/// A fault of the second output cuts its line and changes no status.
-#[test]
-fn second_output_fails(rt: HostRuntime) -> Result<(), Fail> {
-    let alloc = rt.alloc();
-    let mut store = MemoryStore::new(Vec::new(alloc), Vec::new(alloc));
-    let mut out = MemorySink::new(alloc, 100, Vec::new(alloc))?;
-    let mut err = MemorySink::new(alloc, 10, Vec::new(alloc))?;
-    let mut world = MemoryWorld::new(Vec::new(alloc));
-    let words = words_of(alloc, "trace none.rec at 0")?;
-    let status = sledge(
-        &rt, alloc, &words, &mut store, &mut world, &mut out, &mut err, &NoGate,
-    );
-    assert_eq!(rt; status.code(), 2);
-    assert_eq!(rt; err.bytes(), b"sledge: ab".as_slice());
-    Ok(())
-}
+/// Commands over a recording `a.rec` with so much room for the first and for the second output, and
+/// how they end: at the first byte, the second, a later one and the last, nothing behind that byte
+/// is written. `|` stands for the end of a line. The report has 129 bytes.
+const FULL: &str = "\
+0 100 trace a.rec at 10008 => 11 sledge: sink fault|
+1 100 trace a.rec at 10008 => 11 1sledge: sink fault|
+10 100 trace a.rec at 10008 => 11 1,all,2,0,sledge: sink fault|
+128 100 trace a.rec at 10008 => 11 1,all,2,0,0x00010008,Done,0x00000005|end,exited,3,,0x0001000c,,0x00000005|regs,x,,,,,x2=0x7fffffe0 x10=0x00000005 x17=0x0000005dsledge: sink fault|
+129 0 trace a.rec at 10008 => 0 1,all,2,0,0x00010008,Done,0x00000005|end,exited,3,,0x0001000c,,0x00000005|regs,x,,,,,x2=0x7fffffe0 x10=0x00000005 x17=0x0000005d|
+0 0 trace a.rec at 10008 => 11 
+0 1 trace a.rec at 10008 => 11 s
+0 18 trace a.rec at 10008 => 11 sledge: sink fault
+1 100 replay a.rec => 11 esledge: sink fault|
+9 100 check a.rec => 11 checked 0sledge: sink fault|
+0 0 trace none.rec at 0 => 2 
+0 1 trace none.rec at 0 => 2 s
+0 10 trace none.rec at 0 => 2 sledge: ab
+0 24 trace none.rec at 0 => 2 sledge: absent: none.rec
+0 25 trace none.rec at 0 => 2 sledge: absent: none.rec|
+";
 
-/// A first output with room for ten bytes holds the first ten of the report.
 #[test]
-fn first_output_fails(rt: HostRuntime) -> Result<(), Fail> {
+fn outputs_that_fail(rt: HostRuntime) -> Result<(), Fail> {
     let alloc = rt.alloc();
-    let mut store = store_of(alloc, "a.rec", &recording(alloc, EXITS)?, &[])?;
-    let mut out = MemorySink::new(alloc, 10, Vec::new(alloc))?;
-    let mut err = MemorySink::new(alloc, 100, Vec::new(alloc))?;
-    let mut world = MemoryWorld::new(Vec::new(alloc));
-    let words = words_of(alloc, "trace a.rec at 10008")?;
-    let status = sledge(
-        &rt, alloc, &words, &mut store, &mut world, &mut out, &mut err, &NoGate,
-    );
-    assert_eq!(rt; status.code(), 11);
-    assert_eq!(rt; out.bytes(), b"1,all,2,0,".as_slice());
-    assert_eq!(rt; err.bytes(), b"sledge: sink fault\n".as_slice());
+    let bytes = recording(alloc, EXITS)?;
+    for row in FULL.lines() {
+        let (words, text) = row.split_once(" => ").ok_or("no row")?;
+        let (first, words) = words.split_once(' ').ok_or("no first room")?;
+        let (second, words) = words.split_once(' ').ok_or("no second room")?;
+        let rooms = (first.parse()?, second.parse()?);
+        let mut store = store_of(alloc, "a.rec", &bytes, &[])?;
+        let mut world = MemoryWorld::new(Vec::new(alloc));
+        let told = told_in(&rt, alloc, &mut store, &mut world, words, rooms, &NoGate)?;
+        let text = filled(alloc, text, '|', "\n")?;
+        assert_eq!(rt; told.as_slice(), text.as_bytes(), "{row}");
+    }
     Ok(())
 }

@@ -49,8 +49,21 @@ pub fn told_at<R: Threads + Sync, G: Gate>(
     room: usize,
     gate: &G,
 ) -> Result<Vec<u8>, Fail> {
-    let mut out = MemorySink::new(alloc, room, Vec::new(alloc))?;
-    let mut err = MemorySink::new(alloc, 150, Vec::new(alloc))?;
+    told_in(rt, alloc, store, world, words, (room, 150), gate)
+}
+
+/// The same with so much room for the first and for the second output.
+pub fn told_in<R: Threads + Sync, G: Gate>(
+    rt: &R,
+    alloc: Global,
+    store: &mut MemoryStore,
+    world: &mut MemoryWorld,
+    words: &str,
+    rooms: (usize, usize),
+    gate: &G,
+) -> Result<Vec<u8>, Fail> {
+    let mut out = MemorySink::new(alloc, rooms.0, Vec::new(alloc))?;
+    let mut err = MemorySink::new(alloc, rooms.1, Vec::new(alloc))?;
     let words = words_of(alloc, words)?;
     let status = sledge(rt, alloc, &words, store, world, &mut out, &mut err, gate);
     let mut text = format!(in alloc; "{} ", status.code())?.into_bytes();

@@ -24,7 +24,7 @@ fn told<R: Threads + Sync, G: Gate>(
 
 /// A program that stores a word at 0x11005, with a checkpoint behind each instruction. The lowest
 /// byte of the word in the checkpoint behind the store is left open.
-fn stores_once(alloc: Global, byte: u32) -> Result<Vec<u8>, Fail> {
+pub fn stores_once(alloc: Global, byte: u32) -> Result<Vec<u8>, Fail> {
     let recipe = format!(in alloc;
         "\
 words 0 10000 1010 000112b7 00028293 01020337 30430313 0062a2a3 05d00893 73
