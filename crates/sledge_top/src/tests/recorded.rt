@@ -158,18 +158,22 @@ trace p.rec s.txt --analyse hist=0 => 0 1,hist=0,1,,,,0x00013000|end,exited,22,,
 regs,x,,,,,x1=0x00010030 x2=0x7fffffe0 x5=0x00001000 x11=0x00011000 x12=0x00000003 x17=0x0000005d|
 ";
 
+/// A world that answers 3, and then nothing.
+pub fn world_of_one(alloc: Global) -> Result<MemoryWorld, Fail> {
+    let reply = Reply {
+        result: 3,
+        bytes: Seq::new(alloc),
+    };
+    Ok(MemoryWorld::new(vec![in alloc; reply]?))
+}
+
 #[test]
 fn small_library(rt: HostRuntime) -> Result<(), Fail> {
     let alloc = rt.alloc();
     let script: &[u8] = b"(at (enter put) (emit (reg 10)))";
     let files = [("p.s", LIBRARY.as_bytes()), ("s.txt", script)];
     let mut store = store_with(alloc, &files, &[])?;
-    let mut replies = Vec::new(alloc);
-    replies.push(Reply {
-        result: 3,
-        bytes: Seq::new(alloc),
-    })?;
-    let mut world = MemoryWorld::new(replies);
+    let mut world = world_of_one(alloc)?;
     run_all(&rt, alloc, &mut store, &mut world, LIBRARY_COMMANDS)?;
     let rec = recording_in(alloc, &store, "p.rec")?;
     let calls: [(u32, u32, &[u8]); 4] = [

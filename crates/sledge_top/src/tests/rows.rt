@@ -2,9 +2,9 @@
 //! between, with outputs that were worked by hand.
 
 use super::assembled::DIVISIONS;
-use super::recorded::{EXITS, LIBRARY, bytes_of, check_changed, run_all, store_with};
+use super::recorded::{EXITS, LIBRARY, bytes_of, check_changed, run_all, store_with, world_of_one};
 use super::recordings::words;
-use sl_base::{MemoryWorld, Reply, Seq};
+use sl_base::MemoryWorld;
 use std::alloc::Global;
 use std::process::Abort;
 use std::test::Fail;
@@ -117,12 +117,7 @@ fn changed_ends(rt: HostRuntime) -> Result<(), Fail> {
 /// The recording of a program that calls four times, the last time to write three bytes.
 fn four_calls<R: Threads + Sync + Abort>(rt: &R, alloc: Global) -> Result<Vec<u8>, Fail> {
     let mut store = store_with(alloc, &[("a.s", LIBRARY.as_bytes())], &[])?;
-    let mut replies = Vec::new(alloc);
-    replies.push(Reply {
-        result: 3,
-        bytes: Seq::new(alloc),
-    })?;
-    let mut world = MemoryWorld::new(replies);
+    let mut world = world_of_one(alloc)?;
     let commands = "\
 asm a.s a.elf => 0 assembled 556 bytes|
 record a.elf a => 0 recorded 22 exited 0x00000000|";
