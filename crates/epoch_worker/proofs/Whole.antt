@@ -11,7 +11,7 @@ use Rattle.epoch_board.specs.Rule.{times}
 use Rattle.epoch_board.specs.Seats.{BoardId, SeatState}
 use Rattle.epoch_core.specs.declared.post.Post.{Post}
 use Rattle.epoch_core.specs.declared.post.PostValue.{PostValue}
-use Rattle.epoch_core.specs.declared.post.PostValue.TheVariants.{Broke, Skipped}
+use Rattle.epoch_core.specs.declared.post.PostValue.TheVariants.{Broke}
 use Rattle.epoch_core.specs.Posts.{post_of, posts_for, BrokeAt, IsRight, Posted}
 use Rattle.epoch_worker.specs.Work.{IsDueBelow, IsDue, if_broke, broken_of, HasWorked}
 

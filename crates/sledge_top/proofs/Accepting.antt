@@ -3,7 +3,7 @@ use Rattle.std.specs.Prelude.{nat_lt, cond, if◌then◌else◌, IsOk}
 use Rattle.std.specs.Ordering.{nat_cmp, eq_by_cmp}
 use Rattle.std.specs.Cmp.Lexicographic.{slice_cmp}
 use Rattle.std.specs.FinMap.{get, insert, get-insert}
-use Rattle.std.proofs.Common.{◌≡◌, ℕ, ◌≤◌, Bool, true, false, List, [], length, Option, Some, None, Result, Ok, Err, refl, sym, ap, subst, ◌∙◌, arith}
+use Rattle.std.proofs.Common.{◌≡◌, ℕ, Bool, true, false, List, [], length, Option, Some, None, Result, Ok, Err, refl, sym, ap, subst, ◌∙◌, arith}
 use Rattle.std.proofs.lemmas.Bool.Decides.{nat_tests}
 use Rattle.std.proofs.lemmas.Cmp.{eq_by_cmp_equiv, nat_list_cmp_total}
 use Rattle.sl_base.specs.Files.{Files}
@@ -25,7 +25,7 @@ use Rattle.report.specs.declared.status.Refusal.{Refusal}
 use Rattle.report.specs.declared.status.Refusal.TheVariants as refusal
 use Rattle.report.specs.Report.{checked_line}
 use Rattle.sledge_top.specs.Done.{Done, only_text, with_put}
-use Rattle.sledge_top.specs.Answer.{◌>>=◌, RECORDING_LIMIT, IMAGE_LIMIT, check, replay, recut, within, file_of, recorded, recorded_in, recording_of, image_in, image_of, image_from, image_or_refusal, refused_by, replayed, replayed_alone, source_of, recorded_as, put_recording, unless_broken, recut_from, RecordsProgram, RecordsImage, RecordsFile}
+use Rattle.sledge_top.specs.Answer.{◌>>=◌, RECORDING_LIMIT, IMAGE_LIMIT, check, replay, recut, within, file_of, recorded, recorded_in, image_of, image_or_refusal, refused_by, replayed, replayed_alone, source_of, recorded_as, put_recording, unless_broken, recut_from, RecordsProgram, RecordsImage, RecordsFile}
 use Rattle.sledge_top.specs.Accepted.{IsAccepted, RecordingsAreAccepted}
 
 differ : (done : Done) (why : Refusal) → Ok done ≡ Err why → ⊥

@@ -1,5 +1,5 @@
 -- What an analysis says of its word has one proof at most.
-use Rattle.std.proofs.Common.{◌≡◌, ℕ, List, Option, Some, zero, suc, refl}
+use Rattle.std.proofs.Common.{◌≡◌, ℕ, List, Some, zero, suc, refl}
 use Rattle.std.specs.Coded.{Coded, Coded-set, code_by, coded×, coded_ℕ, coded_option}
 use Rattle.analysers.specs.declared.kind.KindOf.{KindOf}
 use Rattle.analysers.specs.declared.kind.KindOf.TheVariants.{All, Done, Point, Word, Changes, Rising, Open, Count, Sum, Least, Greatest, Hist, First, Last}

@@ -1,5 +1,5 @@
 -- What the command that records puts, as the other commands read it.
-use Rattle.std.specs.Prelude.{◌≡◌, ℕ, List, Option, None, Result, Ok, IsOk}
+use Rattle.std.specs.Prelude.{◌≡◌, ℕ, List, Option, None, Ok, IsOk}
 use Rattle.sl_base.specs.Files.{Files}
 use Rattle.sl_base.specs.declared.world.Reply.{Reply}
 use Rattle.elf_image.specs.declared.image.Image.{Image}

@@ -1,12 +1,9 @@
 -- The recording that is generated.
-use Rattle.std.specs.Prelude.{◌≡◌, ℕ, List, [], Option, Some, Result, Ok, Err}
-use Rattle.sl_base.specs.declared.refused.Refused.{Refused}
-use Rattle.sl_base.specs.declared.refused.Refused.TheVariants as refused
+use Rattle.std.specs.Prelude.{◌≡◌, ℕ, List, [], Option, Some, Ok}
 use Rattle.sl_base.specs.declared.world.Reply.{Reply}
 use Rattle.elf_image.specs.declared.image.Image.{Image}
 use Rattle.elf_image.specs.Written.{written}
 use Rattle.rec_format.specs.declared.recording.Recording.{Recording}
-use Rattle.asm_text.specs.declared.fault.AsmFault.{AsmFault}
 use Rattle.rv_asm.specs.Assembly.{assembly}
 use Rattle.call_recorder.specs.declared.source.ImageSource.{ImageSource}
 use Rattle.call_recorder.specs.Recorded.{IsRecorded}

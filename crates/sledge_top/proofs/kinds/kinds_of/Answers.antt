@@ -1,4 +1,4 @@
-use Rattle.std.proofs.Common.{◌≡◌, ◌+◌, ℕ, List, [], Bor, get_or, drop, sym, ap, ◌∙◌}
+use Rattle.std.proofs.Common.{◌+◌, ℕ, List, [], Bor, get_or, drop, sym, ap, ◌∙◌}
 use Rattle.analysers.specs.declared.kind.Kind.{Kind}
 use Rattle.cli_words.specs.Views.{words_view}
 use Rattle.sledge_top.specs.Kinds.{kinds_from}

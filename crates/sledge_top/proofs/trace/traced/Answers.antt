@@ -1,4 +1,4 @@
-use Rattle.std.proofs.Common.{◌≡◌, List, Ok, ap, sym, subst, length, ◌∙◌}
+use Rattle.std.proofs.Common.{List, Ok, ap, sym, subst, length, ◌∙◌}
 use Rattle.std.proofs.lemmas.Result.{err_from_is_err_and}
 use Rattle.analysers.specs.declared.kind.Kind.{Kind}
 use Rattle.analysers.specs.declared.merged.Merged.{Merged}
