@@ -1,23 +1,21 @@
 -- What a block of instructions that go straight on does, as facts that stand in order of execution,
 -- and that the machine does it.
 use Rattle.std.specs.Prelude.{slice_get, IsSome, IfSome, is_some}
-use Rattle.std.specs.Option.{option_map}
-use Rattle.std.proofs.Common.{◌≡◌, ℕ, suc, ◌+◌, ◌-◌, ◌*◌, ◌%◌, ◌≤◌, List, [], ◌∷◌, length, Option, Some, None, true, refl, ap, ◌∙◌, sym, subst, arith}
+use Rattle.std.proofs.Common.{◌≡◌, ℕ, suc, ◌+◌, ◌-◌, ◌*◌, ◌≤◌, List, [], ◌∷◌, length, Option, Some, None, true, refl, ap, ◌∙◌, subst, arith}
 use Rattle.sl_model.specs.declared.instr.Instr.{Instr}
 use Rattle.sl_model.specs.declared.instr.Instr.TheVariants.{Lui, Auipc, Jal, Jalr, Branch, Load, Store, OpImm, Shift, Op, MulDiv, Fence, Ecall, Ebreak}
 use Rattle.sl_model.specs.Pages.{Pages, ArePages, load_at, store_at}
 use Rattle.sl_model.specs.Stores.{IsStored}
-use Rattle.sl_model.specs.Words.{meaning}
 use Rattle.sl_model.specs.Arithmetic.{word_add, immediate_word, upper_word, immediate_value, shift_value, register_value, mul_div_value, load_width, load_value, store_width}
 use Rattle.sl_model.specs.NextStore.{store_by}
 use Rattle.sl_model.specs.State.{State}
-use Rattle.sl_model.specs.Step.{Stepped, step, address as step_address}
+use Rattle.sl_model.specs.Step.{address as step_address}
 use Rattle.sl_model.proofs.Memory.{is_some-store_at, IsStored-stored, ArePages-stored}
 use Rattle.word_blocks.specs.Code.{CodeStands, HasBlock}
 use Rattle.word_blocks.specs.Configuration.{Registers, read, write, Configuration, at_place, address, does, IsAt}
 use Rattle.word_blocks.specs.Ways.{Promise, Keeps, Comes, Arrives, Leads}
 use Rattle.word_blocks.proofs.Instructions.{step-does, next_store-at}
-use Rattle.word_blocks.proofs.Ways.{Comes-step, Comes-then}
+use Rattle.word_blocks.proofs.Ways.{Comes-then}
 
 -- ---- what a block does
 

@@ -2,15 +2,14 @@
 use Rattle.std.specs.Prelude.{Option, IfSome, is_some, ◌&&◌, ◌⊎◌}
 use Rattle.std.specs.Option.{option_and_then, option_map}
 use Rattle.std.specs.FinMap.{get}
-use Rattle.std.proofs.Common.{◌≡◌, ℕ, zero, suc, ◌+◌, ◌*◌, ◌/◌, ◌%◌, ◌^◌, ◌<◌, ◌≤◌, inl, inr, ⊎_elim, List, length, Some, None, refl, ap, ◌∙◌, sym, subst, arith, get_or, add-zero, slice_get}
-use Rattle.std.proofs.Math.Nat.{pow-succ'}
+use Rattle.std.proofs.Common.{◌≡◌, ℕ, zero, suc, ◌+◌, ◌*◌, ◌/◌, ◌%◌, ◌^◌, ◌<◌, ◌≤◌, inl, inr, ⊎_elim, List, length, Some, None, refl, ap, ◌∙◌, sym, subst, arith, get_or}
 use Rattle.std.proofs.lemmas.Bool.{cases_eq}
 use Rattle.std.proofs.lemmas.List.{ext_get_or}
 use Rattle.std.proofs.lemmas.Option.{slice_get-get_or}
 use Rattle.sl_model.specs.Pages.{Pages, ArePages, byte_at, bytes_at, load_at}
-use Rattle.sl_model.specs.Stores.{IsElsewhere, IsStored}
-use Rattle.sl_model.proofs.PagesLaws.{AreWhole, load_at-suc, is_some-byte_at, byte_at-in_page, byte_at-none}
-use Rattle.sl_model.proofs.Memory.{byte_at-small, load_at-small, AreWhole-pages}
+use Rattle.sl_model.specs.Stores.{IsStored}
+use Rattle.sl_model.proofs.PagesLaws.{load_at-suc, is_some-byte_at, byte_at-in_page, byte_at-none}
+use Rattle.sl_model.proofs.Memory.{byte_at-small, AreWhole-pages}
 
 -- ---- the same bytes
 

@@ -4,9 +4,9 @@ use Rattle.std.proofs.Common.{◌≡◌, ℕ, zero, suc, ◌+◌, ◌*◌, ◌%�
 use Rattle.std.proofs.lemmas.Option.{slice_get_within}
 use Rattle.sl_model.specs.declared.instr.Instr.{Instr}
 use Rattle.sl_model.specs.Pages.{Pages, load_at}
-use Rattle.sl_model.specs.Words.{Means, meaning}
+use Rattle.sl_model.specs.Words.{Means}
 use Rattle.sl_model.proofs.Meanings.{meaning-Means}
-use Rattle.word_blocks.specs.Code.{StandsAt, CodeStands, HasBlock, Spells}
+use Rattle.word_blocks.specs.Code.{CodeStands, HasBlock, Spells}
 use Rattle.word_blocks.proofs.Bytes.{SameBytes, SameBytes-part, load_at-same}
 
 -- ---- parts
@@ -60,10 +60,10 @@ CodeStands-same start code m m' stands same = record {
   aligned = stands.aligned;
   within = stands.within;
   words = λ place instr here.
-  let found = stands.words place instr here in
-  let inside : place < length code = slice_get_within code place instr here in
-  let part : SameBytes (start + 4 * place) 4 m m' = SameBytes-part start (4 * length code) (start + 4 * place) 4 m m' same (omega arith) (omega (arith, inside)) in
-  (found.0, sym (load_at-same m m' (start + 4 * place) 4 part) ∙ found.1, found.2);
+      let found = stands.words place instr here in
+      let inside : place < length code = slice_get_within code place instr here in
+      let part : SameBytes (start + 4 * place) 4 m m' = SameBytes-part start (4 * length code) (start + 4 * place) 4 m m' same (omega arith) (omega (arith, inside)) in
+      (found.0, sym (load_at-same m m' (start + 4 * place) 4 part) ∙ found.1, found.2);
 }
 
 -- a word that spells an instruction
@@ -83,5 +83,5 @@ CodeStands-spelled start words code m aligned within spells stand = record {
   aligned = aligned;
   within = within;
   words = λ place instr here.
-  (slice_index_or words place 0, stand place (slice_get_within code place instr here), meaning-Means (slice_index_or words place 0) instr (spelled words code place instr spells here));
+      (slice_index_or words place 0, stand place (slice_get_within code place instr here), meaning-Means (slice_index_or words place 0) instr (spelled words code place instr spells here));
 }

@@ -1,6 +1,6 @@
 -- Where runs end, and that a way to an end is the whole run.
-use Rattle.std.specs.Prelude.{Option, is_some, slice_get, IsTrue, IsFalse}
-use Rattle.std.proofs.Common.{◌≡◌, ℕ, ◌<◌, true, false, List, Some, None, refl, ap, ◌∙◌, sym}
+use Rattle.std.specs.Prelude.{Option, is_some, slice_get, IsTrue}
+use Rattle.std.proofs.Common.{◌≡◌, ℕ, false, List, Some, None, refl, ap, ◌∙◌}
 use Rattle.sl_model.specs.declared.instr.LoadOp.{LoadOp}
 use Rattle.sl_model.specs.declared.instr.StoreOp.{StoreOp}
 use Rattle.sl_model.specs.declared.instr.Instr.{Instr}
@@ -9,11 +9,11 @@ use Rattle.sl_model.specs.declared.traps.TheConstants.{LOAD_FAULT, STORE_FAULT}
 use Rattle.sl_model.specs.Pages.{Pages, load_at, store_at}
 use Rattle.sl_model.specs.Arithmetic.{word_add, immediate_word, load_width, store_width}
 use Rattle.sl_model.specs.State.{State, register}
-use Rattle.sl_model.specs.Step.{Stepped, Called, Trapped, step, execute, loaded, stored, address as step_address}
-use Rattle.sl_model.specs.Runs.{steps, ends_at, is_end, EndsAfter}
+use Rattle.sl_model.specs.Step.{Called, Trapped, step, execute, loaded, stored, address as step_address}
+use Rattle.sl_model.specs.Runs.{ends_at, is_end, EndsAfter}
 use Rattle.sl_model.proofs.Memory.{is_some-store_at}
 use Rattle.word_blocks.specs.Code.{CodeStands}
-use Rattle.word_blocks.specs.Configuration.{Configuration, read, address, IsAt}
+use Rattle.word_blocks.specs.Configuration.{Configuration, address, IsAt}
 use Rattle.word_blocks.specs.Ways.{Promise, Comes}
 use Rattle.word_blocks.proofs.Instructions.{step-execute}
 use Rattle.word_blocks.proofs.Ways.{Comes-steps, Comes-keeps}

@@ -1,7 +1,7 @@
 -- The machine follows what a block does, instruction by instruction.
 use Rattle.std.specs.Prelude.{IfSome, take}
 use Rattle.std.specs.Option.{option_and_then}
-use Rattle.std.proofs.Common.{◌≡◌, ℕ, zero, suc, ◌+◌, ◌<◌, ◌≤◌, List, [], ◌∷◌, length, Option, Some, None, refl, ap, ◌∙◌, sym, subst, arith}
+use Rattle.std.proofs.Common.{◌≡◌, ℕ, zero, suc, ◌<◌, ◌≤◌, List, [], ◌∷◌, length, Option, Some, None, refl, ap, sym, subst, arith}
 use Rattle.sl_model.specs.declared.instr.Instr.{Instr}
 use Rattle.sl_model.specs.State.{State}
 use Rattle.sl_model.specs.Step.{step}

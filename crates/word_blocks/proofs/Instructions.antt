@@ -8,10 +8,9 @@ use Rattle.std.proofs.lemmas.List.{get_or-set_same, get_or-set_other}
 use Rattle.sl_model.specs.declared.instr.Instr.{Instr}
 use Rattle.sl_model.specs.declared.instr.Instr.TheVariants.{Lui, Auipc, Jal, Jalr, Branch, Load, Store, OpImm, Shift, Op, MulDiv, Fence, Ecall, Ebreak}
 use Rattle.sl_model.specs.declared.instr.LoadOp.{LoadOp}
-use Rattle.sl_model.specs.declared.instr.StoreOp.{StoreOp}
 use Rattle.sl_model.specs.Pages.{Pages, load_at, store_at}
 use Rattle.sl_model.specs.Words.{HasBits, meaning}
-use Rattle.sl_model.specs.Arithmetic.{word_add, immediate_word, upper_word, immediate_value, shift_value, register_value, mul_div_value, load_width, load_value, store_width}
+use Rattle.sl_model.specs.Arithmetic.{word_add, immediate_word, upper_word, immediate_value, shift_value, load_width, load_value, store_width}
 use Rattle.sl_model.specs.NextStore.{store_by, next_store}
 use Rattle.sl_model.specs.State.{State, register, set_register}
 use Rattle.sl_model.specs.Step.{Next, Stepped, Called, Trapped, step, execute, loaded, stored, put_register, gone_to, after, address as step_address}

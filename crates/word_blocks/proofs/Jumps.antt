@@ -1,21 +1,21 @@
 -- Where jumps and branches lead.
-use Rattle.std.specs.Prelude.{if◌then◌else◌, slice_get, slice_index, IfSome}
-use Rattle.std.proofs.Common.{◌≡◌, ℕ, suc, ◌+◌, ◌-◌, ◌*◌, ◌%◌, ◌^◌, ◌<◌, ◌≤◌, Bool, true, false, List, length, Some, None, refl, ap, ◌∙◌, sym, subst, arith}
+use Rattle.std.specs.Prelude.{if◌then◌else◌, slice_get, slice_index}
+use Rattle.std.proofs.Common.{◌≡◌, ℕ, ◌+◌, ◌*◌, ◌%◌, ◌^◌, ◌<◌, ◌≤◌, Bool, true, false, List, length, Some, None, refl, ap, ◌∙◌, arith}
 use Rattle.std.proofs.lemmas.Bool.Decides.{nat_tests}
 use Rattle.std.proofs.lemmas.Option.{slice_get_within}
 use Rattle.sl_model.specs.declared.instr.BranchOp.{BranchOp}
 use Rattle.sl_model.specs.declared.instr.Instr.{Instr}
 use Rattle.sl_model.specs.declared.instr.Instr.TheVariants.{Jal, Jalr, Branch}
 use Rattle.sl_model.specs.Pages.{Pages}
-use Rattle.sl_model.specs.Words.{HasBits, meaning}
+use Rattle.sl_model.specs.Words.{HasBits}
 use Rattle.sl_model.specs.Arithmetic.{word_add, immediate_word, branch_word, jump_word, is_taken}
 use Rattle.sl_model.specs.NextStore.{store_by}
 use Rattle.sl_model.specs.State.{State}
-use Rattle.sl_model.specs.Step.{Next, Stepped, step, execute, put_register, gone_to, after, even, jump, branch, pass, address as step_address}
+use Rattle.sl_model.specs.Step.{Stepped, step, execute, put_register, gone_to, after, even, jump, branch, pass, address as step_address}
 use Rattle.word_blocks.specs.Code.{CodeStands}
 use Rattle.word_blocks.specs.Configuration.{Registers, read, write, Configuration, at_place, address, IsAt}
 use Rattle.word_blocks.specs.Jumps.{jump_between, words_further}
-use Rattle.word_blocks.specs.Ways.{Promise, Keeps, Comes, Arrives, Leads}
+use Rattle.word_blocks.specs.Ways.{Promise, Leads}
 use Rattle.word_blocks.proofs.Instructions.{step-execute, next_store-at, bits_of, read-write, Follows, IsAt-next}
 use Rattle.word_blocks.proofs.Ways.{Leads-step}
 

@@ -7,3 +7,4 @@ pub mod Jumps
 pub mod Ends
 pub mod PuttingBack
 pub mod Following
+mod Rows

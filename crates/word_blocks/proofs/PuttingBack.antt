@@ -1,11 +1,10 @@
 -- The log put back: what stores do to the memory that it gives.
-use Rattle.std.specs.Prelude.{Option, Bool, IfSome, IsSome, IsTrue, is_some, unwrap_or, ◌⊎◌, if◌then◌else◌}
-use Rattle.std.specs.FinMap.{get}
-use Rattle.std.proofs.Common.{◌≡◌, ℕ, zero, suc, ◌+◌, ◌-◌, ◌*◌, ◌%◌, ◌^◌, ◌<◌, ◌≤◌, inl, inr, ⊎_elim, List, [], ◌∷◌, Some, None, true, false, refl, ap, ◌∙◌, sym, subst, arith, add-one}
+use Rattle.std.specs.Prelude.{Option, Bool, IfSome, IsTrue, is_some, unwrap_or, ◌⊎◌, if◌then◌else◌}
+use Rattle.std.proofs.Common.{◌≡◌, ℕ, zero, suc, ◌+◌, ◌-◌, ◌*◌, ◌%◌, ◌^◌, ◌<◌, ◌≤◌, inl, inr, List, [], ◌∷◌, Some, None, true, false, refl, ap, ◌∙◌, sym, subst, arith, add-one}
 use Rattle.std.proofs.Math.Nat.{mod-eq_of_lt}
 use Rattle.std.proofs.lemmas.Bool.{cases_lt}
 use Rattle.sl_model.specs.declared.bank.TheConstants.{LOG_START}
-use Rattle.sl_model.specs.declared.layout.TheConstants.{MEMORY_END, PROGRAM_PAGES}
+use Rattle.sl_model.specs.declared.layout.TheConstants.{MEMORY_END}
 use Rattle.sl_model.specs.Bank.{HaveOneProgram}
 use Rattle.sl_model.specs.Pages.{Pages, ArePages, byte_at, load_at, store_at}
 use Rattle.sl_model.specs.Stores.{IsElsewhere, IsStored}

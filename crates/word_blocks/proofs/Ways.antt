@@ -4,7 +4,6 @@ use Rattle.std.proofs.Common.{◌≡◌, ℕ, zero, suc, ◌+◌, ◌-◌, ◌<�
 use Rattle.sl_model.specs.State.{State}
 use Rattle.sl_model.specs.Step.{Stepped, step}
 use Rattle.sl_model.specs.Runs.{next_state, steps}
-use Rattle.sl_model.proofs.RunsLaws.{steps-suc}
 use Rattle.word_blocks.specs.Configuration.{Configuration, IsAt}
 use Rattle.word_blocks.specs.Ways.{Promise, Keeps, Comes, Arrives, Leads}
 
