@@ -1,4 +1,4 @@
--- The memory of the tests: two pages, and none of them a heap's.
+-- The memory of the tests: at most two pages, and none of them a heap's.
 use Rattle.std.specs.List.{AllByRecursion}
 use Rattle.std.proofs.Math.ListN.{length-set}
 use Rattle.std.proofs.Common.{lit<, lit≤, zero, ◌≡◌, ℕ, suc, ◌*◌, ◌<◌, ◌≤◌, ◌⊎◌, Bool, true, false, cond, List, [], ◌∷◌, ◌++◌, length, Some, refl, ap, ◌∙◌, sym, arith, subst, inl, inr, ⊎_elim}
@@ -12,9 +12,8 @@ use Rattle.sl_model.specs.declared.run_state.RunState.TheVariants.{Running}
 use Rattle.sl_model.specs.Pages.{Pages, ArePages}
 use Rattle.sl_model.specs.Words.{IsWord}
 use Rattle.sl_model.proofs.Steps.{words-set_register}
-use Rattle.sl_model.proofs.PagesLaws.{is_some-set_bytes}
 use Rattle.sl_model.specs.State.{State, IsOpening}
-use Rattle.page_frames.specs.MarkedPages.{MarkedPages, with_page, with_bytes}
+use Rattle.page_frames.specs.MarkedPages.{MarkedPages, with_page}
 use Rattle.sl_model.specs.Mapping.{zero_page}
 use Rattle.sl_model.specs.Marks.{MarksGoOn}
 use Rattle.sl_model.specs.declared.layout.TheConstants.{PROGRAM_PAGES}
@@ -51,17 +50,14 @@ mapped_more m page q h = ⊎_elim
     (inserted (eq_by_cmp nat_cmp q page) (replicate 4096 0) (get m.pages q) (subst IsSome (get-insert nat_cmp_total m.pages page (replicate 4096 0) q) new)))
     (chosen (contains_key m.pages page) m (record { pages = insert m.pages page (replicate 4096 0); dirty = m.dirty ++ page ∷ [] }) q h)
 
-pub mapped_before : (m : MarkedPages) (b : Bool) (address : ℕ) (bytes : List ℕ) (q : ℕ) → IsSome (get (if b then with_bytes m address bytes else m).pages q) → IsSome (get m.pages q)
-mapped_before m b address bytes q h = ⊎_elim (λ (some : IsSome (get (with_bytes m address bytes).pages q)). sym (is_some-set_bytes m.pages address bytes q) ∙ some) (λ o. o) (chosen b (with_bytes m address bytes) m q h)
-
 -- a memory has no more pages than one that has them all
 pub len_of_part : (part whole : Pages) → ((q : ℕ) → IsSome (get part q) → IsSome (get whole q)) → len part ≤ len whole
 len_of_part part whole sub = part_len (len part) part whole refl sub
 
 -- ---- an opening state
 
-heap_page : (q : ℕ) → (q ≡ 16) ⊎ (q ≡ 20) → 0x12000 ≤ q * 4096 → q * 4096 < 0x14000 → ⊥
-heap_page q is from to = ⊎_elim (λ e. omega arith) (λ e. omega arith) is
+heap_page : (q : ℕ) → (q < 18) ⊎ (20 ≤ q) → 0x12000 ≤ q * 4096 → q * 4096 < 0x14000 → ⊥
+heap_page q is from to = ⊎_elim (λ low. omega arith) (λ high. omega arith) is
 
 zeros : (n : ℕ) → AllByRecursion IsWord (replicate n 0)
 zeros zero = tt
@@ -82,8 +78,9 @@ first_state pages =
       layout = record { brk_start = 0x12000; heap_limit = 0x14000 };
     }
 
-pub opening_is : (pages : Pages) → ArePages pages → ((page : ℕ) → IsSome (get pages page) → (page ≡ 16) ⊎ (page ≡ 20)) → len pages ≤ 2 → IsOpening (first_state pages)
-opening_is all are pages few =
+pub opening_is : (pages : Pages) → ArePages pages → ((page : ℕ) → IsSome (get pages page) → page < PROGRAM_PAGES) → ((page : ℕ) → IsSome (get pages page) → (page < 18) ⊎ (20 ≤ page))
+    → len pages ≤ 2 → IsOpening (first_state pages)
+opening_is all are below pages few =
     let s : State = first_state all in
     let outer : ℕ → Bool = λ page. not (nat_le s.layout.brk_start (page * 4096) && nat_lt (page * 4096) s.layout.heap_limit) in
     let long : length (keys s.pages) ≡ len s.pages = length-map (entries s.pages) (λ (e : ℕ × List ℕ). e.0) ∙ sym (len-entries s.pages) in
@@ -107,7 +104,7 @@ opening_is all are pages few =
         mapped_end = refl;
         end_from = lit≤ tt;
         end_to = lit≤ tt;
-        pages_below = λ page h. ⊎_elim (λ (e : page ≡ 16). omega arith) (λ (e : page ≡ 20). omega arith) (pages page h);
+        pages_below = λ page h. omega (arith, below page h);
         heap = λ page from to. (
           λ h. absurd (heap_page page (pages page h) (omega arith) (omega arith)),
           λ low. absurd (omega arith),

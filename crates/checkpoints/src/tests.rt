@@ -5,6 +5,7 @@ ghost use Rattle.std.specs.FinMap.{get, len};
 ghost use Rattle.rv_machine.specs.Machine.{state_of};
 ghost use Rattle.sl_model.specs.State.{IsOpening};
 ghost use Rattle.sl_model.specs.Marks.{MarksGoOn};
+ghost use Rattle.sl_model.specs.declared.layout.TheConstants.{PROGRAM_PAGES};
 ghost use Rattle.page_frames.specs.MarkedPages.{IsKept};
 ghost use Rattle.checkpoints.specs.Marked.{IsAllDirty};
 
@@ -12,11 +13,13 @@ use crate::Checkpoints;
 use call_log::BreakKind;
 use page_frames::Frames;
 use rec_format::read_recording;
-use rv_machine::Machine;
-use sl_base::Memory;
+use rv_machine::{Machine, Outcome, step};
+use sl_base::{Memory, Steps};
 use sl_model::{Bus, Layout, RunState};
 use std::alloc::{AllocError, Global};
+use std::marker::Brand;
 use std::process::Abort;
+use std::sync::ledger::{Blank, Ledger};
 use std::test::Fail;
 
 /// A checkpoint, with the number and the byte of each listed page, every byte of it the same.
@@ -41,13 +44,27 @@ fn count(len: usize) -> u32 {
     u32::try_from(len).unwrap_or(u32::MAX)
 }
 
+/// Adds a checkpoint but for its pages. Its last numbers are the break, the heap end, the next call
+/// and how many pages it lists.
+fn add_numbers(
+    out: &mut Vec<u8>,
+    count: u32,
+    pc: u32,
+    x: &[u32; 31],
+    last: &[u32; 4],
+) -> Result<(), AllocError> {
+    words(out, &[count, 0, pc])?;
+    words(out, x)?;
+    words(out, last)
+}
+
 /// Adds a checkpoint at 0x10004, with the next call 3.
 fn add(out: &mut Vec<u8>, row: &Row<'_>) -> Result<(), AllocError> {
-    words(out, &[row.count, 0, 0x10004, 0, 0x7fff_ffe0])?;
-    words(out, &[0; 7])?;
-    words(out, &[row.a0])?;
-    words(out, &[0; 21])?;
-    words(out, &[0x12000, row.brk_end, 3, count(row.pages.len())])?;
+    let mut x = [0; 31];
+    x[1] = 0x7fff_ffe0;
+    x[9] = row.a0;
+    let last = [0x12000, row.brk_end, 3, count(row.pages.len())];
+    add_numbers(out, row.count, 0x10004, &x, &last)?;
     for (number, byte) in row.pages {
         words(out, &[*number])?;
         out.extend_from_slice(&[*byte; 4096])?;
@@ -55,27 +72,47 @@ fn add(out: &mut Vec<u8>, row: &Row<'_>) -> Result<(), AllocError> {
     Ok(())
 }
 
-/// The pages 16 and 20, the first with the bytes 1, 2, 3 at its start.
-fn memory(alloc: Global) -> Result<Frames, Memory>
+/// Writes bytes from an address on, where it is mapped.
+fn write(frames: &mut Frames, address: u32, bytes: &[u8])
+    requires { length bytes.now < 2 ^ 32 }
+    ensures pages { (page : ℕ)
+        → IsSome (get frames.new.pages page) → IsSome (get frames.old.pages page) }
+    ensures goes_on { MarksGoOn true
+        frames.old.pages frames.old.dirty frames.new.pages frames.new.dirty }
+    ensures kept { IsKept frames.new }
+{
+    if !frames.is_mapped(address, bytes.len() as u32) {
+        let _kept = frames.dirty_len();
+        return;
+    }
+    frames.copy_in(address, bytes);
+    let _kept = frames.dirty_len();
+}
+
+/// Page 16 with some bytes at its start, and another page of zeros.
+fn memory(alloc: Global, other: u32, bytes: &[u8]) -> Result<Frames, Memory>
+    requires below { other < PROGRAM_PAGES }
+    requires short { length bytes.now < 2 ^ 32 }
     ensures pages { IfOk result
-        (λ f. (page : ℕ) → IsSome (get f.pages page) → (page ≡ 16) ⊎ (page ≡ 20)) }
+        (λ f. (page : ℕ) → IsSome (get f.pages page) → (page ≡ 16) ⊎ (page ≡ other)) }
     ensures few { IfOk result (λ f. len f.pages ≤ 2) }
     ensures dirty { IfOk result (λ f. IsAllDirty f) }
 {
     let mut frames = Frames::new(alloc)?;
     frames.map_page(16)?;
-    frames.map_page(20)?;
-    frames.store(0x10000, 4, 0x30201);
-    let _kept = frames.dirty_len();
+    frames.map_page(other)?;
+    write(&mut frames, 0x10000, bytes);
     Ok(frames)
 }
 
-/// The opening state of a program with that memory, and room for a heap of two pages from page 18 on.
-fn opening(alloc: Global) -> Result<(Machine, Frames), Memory>
-    ensures opens { IfOk result (λ p. IsOpening (state_of p.0 p.1.pages)) }
-    ensures dirty { IfOk result (λ p. IsAllDirty p.1) }
+/// The opening state of a program with a memory of at most two pages, and room for a heap of two
+/// pages from page 18 on.
+fn opening_with(frames: Frames) -> (Machine, Frames)
+    requires pages { (page : ℕ) → IsSome (get frames.pages page) → (page < 18) ⊎ (20 ≤ page) }
+    requires few { len frames.pages ≤ 2 }
+    ensures opens { IsOpening (state_of result.0 result.1.pages) }
+    ensures same { result.1 ≡ frames }
 {
-    let frames = memory(alloc)?;
     let _kept = frames.dirty_len();
     let mut x = [0; 32];
     x[2] = 0x7fff_ffe0;
@@ -92,7 +129,16 @@ fn opening(alloc: Global) -> Result<(Machine, Frames), Memory>
             heap_limit: 0x14000,
         },
     };
-    Ok((machine, frames))
+    (machine, frames)
+}
+
+/// The opening state of a program with the bytes 1, 2, 3 at its start, and with page 20.
+fn opening(alloc: Global) -> Result<(Machine, Frames), Memory>
+    ensures opens { IfOk result (λ p. IsOpening (state_of p.0 p.1.pages)) }
+    ensures dirty { IfOk result (λ p. IsAllDirty p.1) }
+{
+    let frames = memory(alloc, 20, &[1, 2, 3])?;
+    Ok(opening_with(frames))
 }
 
 /// The checkpoints of a recording with these, of which the last is that of the end.
@@ -448,21 +494,6 @@ fn machines_of_checkpoints(rt: HostRuntime) -> Result<(), Fail> {
     Ok(())
 }
 
-/// Writes the bytes of page 20, where it is mapped.
-fn write_page(frames: &mut Frames, bytes: &[u8])
-    requires { length bytes.now < 2 ^ 32 }
-    ensures goes_on { MarksGoOn true
-        frames.old.pages frames.old.dirty frames.new.pages frames.new.dirty }
-    ensures kept { IsKept frames.new }
-{
-    if !frames.is_mapped(0x14000, bytes.len() as u32) {
-        let _kept = frames.dirty_len();
-        return;
-    }
-    frames.copy_in(0x14000, bytes);
-    let _kept = frames.dirty_len();
-}
-
 #[test]
 fn changes_alone_are_compared(rt: HostRuntime) -> Result<(), Fail> {
     let rows = [plain(1, &[(16, 9)]), plain(2, &[(20, 4)])];
@@ -470,12 +501,101 @@ fn changes_alone_are_compared(rt: HostRuntime) -> Result<(), Fail> {
     let (mut machine, mut frames) = replayed(rt.alloc())?;
     assert!(rt; 1 <= checkpoints.segments());
     checkpoints.state_at(1, &mut machine, &mut frames)?;
-    write_page(&mut frames, &[4; 4096]);
+    write(&mut frames, 0x14000, &[4; 4096]);
     assert_eq!(rt; frames.dirty_len(), 1);
     assert!(rt; frames.is_dirty(20));
     assert!(rt; 2 <= checkpoints.segments());
     assert!(rt; checkpoints.differs(2, &machine, &frames).is_none());
-    write_page(&mut frames, &[1]);
+    write(&mut frames, 0x14000, &[1]);
     assert!(rt; checkpoints.differs(2, &machine, &frames) == broke(2, 35, 0x14000, 4, 1));
+    Ok(())
+}
+
+/// A program that stores into its data, at 0x11005.
+static STORING: [u8; 28] = [
+    0xb7, 0x12, 0x01, 0x00, // lui t0, 0x11
+    0x93, 0x82, 0x02, 0x00, // addi t0, t0, 0
+    0x37, 0x03, 0x02, 0x01, // lui t1, 0x1020
+    0x13, 0x03, 0x43, 0x30, // addi t1, t1, 0x304
+    0xa3, 0xa2, 0x62, 0x00, // sw t1, 5(t0)
+    0x93, 0x08, 0xd0, 0x05, // addi a7, zero, 93
+    0x73, 0x00, 0x00, 0x00, // ecall
+];
+
+/// Its opening state, without a stack: it uses none.
+fn opening_with_data(alloc: Global) -> Result<(Machine, Frames), Memory>
+    ensures { IfOk result (λ p. IsOpening (state_of p.0 p.1.pages)) }
+{
+    let frames = memory(alloc, 17, &STORING)?;
+    Ok(opening_with(frames))
+}
+
+/// Adds its checkpoint after so many instructions, with t0, t1 and a7.
+fn add_storing(out: &mut Vec<u8>, count: u32, set: [u32; 3], pages: u32) -> Result<(), AllocError>
+    requires { count < 8 }
+{
+    let mut x = [0; 31];
+    x[1] = 0x7fff_ffe0;
+    x[4] = set[0];
+    x[5] = set[1];
+    x[16] = set[2];
+    let last = [0x12000, 0x12000, 0, pages];
+    add_numbers(out, count, 0x10000 + 4 * count, &x, &last)
+}
+
+/// Its recording with a checkpoint after each instruction. The fifth lists the page of the store.
+fn storing(alloc: Global) -> Result<Checkpoints, Fail> {
+    let mut bytes = b"SLDGREC1".to_vec(alloc)?;
+    words(&mut bytes, &[0, 0x10000, 0x1010])?;
+    bytes.extend_from_slice(&STORING)?;
+    bytes.extend_from_slice(&[0; 0x1010 - 28])?;
+    words(&mut bytes, &[0, 0, 6])?;
+    add_storing(&mut bytes, 1, [0x11000, 0, 0], 0)?;
+    add_storing(&mut bytes, 2, [0x11000, 0, 0], 0)?;
+    add_storing(&mut bytes, 3, [0x11000, 0x102_0000, 0], 0)?;
+    add_storing(&mut bytes, 4, [0x11000, 0x102_0304, 0], 0)?;
+    add_storing(&mut bytes, 5, [0x11000, 0x102_0304, 0], 1)?;
+    words(&mut bytes, &[17, 0, 0x0203_0400, 1])?;
+    bytes.extend_from_slice(&[0; 4084])?;
+    add_storing(&mut bytes, 6, [0x11000, 0x102_0304, 93], 0)?;
+    words(&mut bytes, &[0, 0])?;
+    add_storing(&mut bytes, 7, [0x11000, 0x102_0304, 93], 0)?;
+    let rec = read_recording(alloc, &bytes)?;
+    let (machine, frames) = opening_with_data(alloc)?;
+    Ok(Checkpoints::new(alloc, rec, machine, frames)?)
+}
+
+/// Does an instruction, on a count of its own.
+fn step_once<L: Ledger>(m: &mut Machine, f: &mut Frames, blank: Blank) -> Outcome
+    requires running { m.old.status ≡ RunState.Running }
+    requires count { m.old.count < 2 ^ 62 }
+    requires name { blank.name ≡ L.name }
+    requires parts { blank.parts ≡ L.parts }
+    requires some_parts { 0 < blank.parts }
+    ensures goes_on { MarksGoOn true f.old.pages f.old.dirty f.new.pages f.new.dirty }
+    ensures kept { IsKept f.new }
+{
+    let outcome = step(m, f, &mut Steps::<L>::new(blank));
+    let _kept = f.dirty_len();
+    outcome
+}
+
+#[test]
+fn the_page_of_a_store_is_compared(rt: HostRuntime) -> Result<(), Fail> {
+    let checkpoints = storing(rt.alloc())?;
+    let (mut machine, mut frames) = opening_with_data(rt.alloc())?;
+    assert_eq!(rt; checkpoints.segments(), 7);
+    checkpoints.state_at(4, &mut machine, &mut frames)?;
+    assert!(rt; machine.status == RunState::Running);
+    assert_eq!(rt; machine.count, 4);
+    let outcome = step_once::<Brand>(&mut machine, &mut frames, Blank::new(1));
+    assert!(rt; outcome == Outcome::Stepped);
+    assert_eq!(rt; frames.dirty_len(), 1);
+    assert!(rt; frames.is_dirty(17));
+    assert!(rt; checkpoints.differs(5, &machine, &frames).is_none());
+    frames.store(0x11000, 1, 1);
+    let dirty = frames.dirty_len();
+    assert_eq!(rt; dirty, 1);
+    assert!(rt; checkpoints.differs(5, &machine, &frames) == broke(5, 35, 0x11000, 0, 1));
     Ok(())
 }

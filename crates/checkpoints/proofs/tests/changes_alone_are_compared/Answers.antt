@@ -9,18 +9,18 @@ differs-requires-clause-holds g c =
     let kept = c.in_ok-checkpoints.checkpoints in
     let opened = opened_of kept in
     let f = c.state_at.new.f in
-    holds-goes_on opened.pages kept.rec 1 f c.write_page.new.frames
+    holds-goes_on opened.pages kept.rec 1 f c.write.new.frames
     (recorded-holds kept.rec opened 1 f kept.opens (ap (λ s. s.pages) c.in_ok-state_at.ensures.state))
-    c.write_page.ensures.goes_on c.write_page.ensures.kept.below
+    c.write.ensures.goes_on c.write.ensures.kept.below
 
 pub differs-requires-2-clause-holds : goal.differs-requires-2-clause-holds
 differs-requires-2-clause-holds g c =
     let kept = c.in_ok-checkpoints.checkpoints in
     let opened = opened_of kept in
     let f = c.state_at.new.f in
-    let first : HoldsRecorded opened.pages kept.rec 1 c.write_page.new.frames =
-    holds-goes_on opened.pages kept.rec 1 f c.write_page.new.frames
+    let first : HoldsRecorded opened.pages kept.rec 1 c.write.new.frames =
+    holds-goes_on opened.pages kept.rec 1 f c.write.new.frames
     (recorded-holds kept.rec opened 1 f kept.opens (ap (λ s. s.pages) c.in_ok-state_at.ensures.state))
-    c.write_page.ensures.goes_on c.write_page.ensures.kept.below in
-    holds-goes_on opened.pages kept.rec 1 c.write_page.new.frames c.write_page-2.new.frames first
-    c.write_page-2.ensures.goes_on c.write_page-2.ensures.kept.below
+    c.write.ensures.goes_on c.write.ensures.kept.below in
+    holds-goes_on opened.pages kept.rec 1 c.write.new.frames c.write-2.new.frames first
+    c.write-2.ensures.goes_on c.write-2.ensures.kept.below

@@ -1,5 +1,6 @@
-use Rattle.checkpoints.proofs.SmallMemory.{opening_is}
+use Rattle.std.proofs.Common.{arith, ⊎_elim, inl, inr}
 use Rattle.checkpoints.proofs.tests.opening.Goals as goal
 
-pub returns-clause-opens : goal.returns-clause-opens
-returns-clause-opens c = opening_is _ c.dirty_len-kept.ensures.kept.whole c.in_ok-frames.ensures.pages c.in_ok-frames.ensures.few
+pub opening_with-requires-clause-pages : goal.opening_with-requires-clause-pages
+opening_with-requires-clause-pages c = λ page some.
+    ⊎_elim (λ e. inl (omega arith)) (λ e. inr (omega arith)) (c.in_ok-frames.ensures.pages page some)
