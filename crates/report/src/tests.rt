@@ -48,6 +48,11 @@ fn refusals(rt: HostRuntime) -> Result<(), Fail> {
     assert!(rt; refuses(alloc, Refusal::Usage, 1, "sledge: usage\n")?);
     let why = Refusal::Absent { name: name(alloc)? };
     assert!(rt; refuses(alloc, why, 2, "sledge: absent: a.rec\n")?);
+    let name_of_two_lines = Seq::from_vec("a\nb\u{7f}\u{e4}.rec".as_bytes().to_vec(alloc)?);
+    let why = Refusal::Absent {
+        name: name_of_two_lines,
+    };
+    assert!(rt; refuses(alloc, why, 2, "sledge: absent: a?b?\u{e4}.rec\n")?);
     let why = Refusal::TooLong {
         limit: 268_435_456,
         name: name(alloc)?,
