@@ -1,11 +1,17 @@
 //! Sledgehammer: a replay debugger for RV32IM programs.
 #![tactic(auto)]
 
+mod line_sink;
+
+use line_sink::LineSink;
 use sl_base::{FileStore, NoGate, StdSink, StdWorld};
 use sledge_top::{Refusal, Status, sledge, write_fault};
 use std::env;
 use std::io::ErrorKind;
 use std::process::ExitCode;
+
+#[cfg(test)]
+mod tests;
 
 /// The words after the program's name. One that is no text makes the words no command.
 fn words(rt: &HostRuntime) -> Result<Vec<String>, Status> {
@@ -30,7 +36,9 @@ fn words(rt: &HostRuntime) -> Result<Vec<String>, Status> {
 
 /// Tells how the program ends where the command was not begun.
 fn refuse(rt: &HostRuntime, status: &Status) -> ExitCode {
-    let _ = write_fault(&mut StdSink::new(rt.stderr()), status);
+    let mut err = LineSink::new(StdSink::new(rt.stderr()));
+    let _ = write_fault(&mut err, status);
+    let _ = err.send();
     ExitCode::from(status.code())
 }
 
@@ -43,6 +51,7 @@ fn main(rt: HostRuntime) -> ExitCode {
     let Ok(mut world) = StdWorld::new(rt.alloc(), &rt, rt.stdin(), rt.stdout(), rt.stderr()) else {
         return refuse(&rt, &Status::Memory);
     };
+    let mut err = LineSink::new(StdSink::new(rt.stderr()));
     let status = sledge(
         &rt,
         rt.alloc(),
@@ -50,8 +59,9 @@ fn main(rt: HostRuntime) -> ExitCode {
         &mut FileStore::new(&rt),
         &mut world,
         &mut StdSink::new(rt.stdout()),
-        &mut StdSink::new(rt.stderr()),
+        &mut err,
         &NoGate,
     );
+    let _ = err.send();
     ExitCode::from(status.code())
 }
