@@ -3,6 +3,7 @@
 mod analyses;
 mod assembled;
 mod epochs;
+mod failing_calls;
 mod generates;
 mod recorded;
 mod recordings;
