@@ -79,6 +79,8 @@ const EXITS_ROWS: &str = "\
 (at (addr 0x10008) (emit (sys 214 0x12000))) => 0 1,all,2,0,0x00010008,Barred 0x000000d6,|
 (at (addr 0x10008) (stop 9)) => 0 1,all,2,0,0x00010008,User 0x00000009,|
 (def f () (return (call f))) (at (addr 0x10008) (run (call f))) => 0 1,all,2,0,0x00010008,TooDeep,|
+(budget 9) (def f () (return (call f))) (at (addr 0x10008) (emit 1) (run (call f)) (emit 2)) => 0 1,all,2,0,0x00010008,OverBudget,0x00000001|
+(budget 1000) (def f (n) (if n (do (run (call f (- n 1))) (run (call f (- n 1)))) (run 0))) (at (addr 0x10008) (emit 1) (run (call f 20)) (emit 2)) => 0 1,all,2,0,0x00010008,OverBudget,0x00000001|
 (at (addr 0x10004) (emit (pc)) (return 1) (emit 2)) => 0 1,all,1,0,0x00010004,Done,0x00010004|
  => 0 
 (at (addr 1) => 6 sledge: script refused at 12: Paren|
@@ -187,5 +189,31 @@ fn most(rt: HostRuntime) -> Result<(), Fail> {
     want.push_str(EXITS_END)?;
     let text = told(&rt, alloc, &bytes, script.as_slice(), "trace a.rec s.txt")?;
     assert_eq!(rt; text.as_slice(), want.as_bytes());
+    Ok(())
+}
+
+/// As many tracepoints as a script may have fire at one address in their order, and one more is
+/// refused.
+#[test]
+fn most_points(rt: HostRuntime) -> Result<(), Fail> {
+    let alloc = rt.alloc();
+    let bytes = recording(alloc, EXITS)?;
+    let mut script = Vec::new(alloc);
+    let mut want = String::from_str(alloc, "0 ")?;
+    for point in 0..64u32 {
+        let text = format!(in alloc; "(at (addr 0x10008) (emit {point}))")?;
+        script.extend_from_slice(text.as_bytes())?;
+        let line = format!(in alloc; "1,all,2,{point},0x00010008,Done,{point:#010x}\n")?;
+        want.push_str(line.as_str())?;
+    }
+    want.push_str(EXITS_END)?;
+    let text = told(&rt, alloc, &bytes, &script, "trace a.rec s.txt")?;
+    assert_eq!(rt; text.as_slice(), want.as_bytes());
+    script.extend_from_slice(b"(at (addr 0) (emit 1))")?;
+    let text = told(&rt, alloc, &bytes, &script, "trace a.rec s.txt")?;
+    assert_eq!(rt;
+        text.as_slice(),
+        b"6 sledge: script refused at 1846: Too large\n".as_slice()
+    );
     Ok(())
 }
