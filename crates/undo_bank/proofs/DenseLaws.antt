@@ -1,0 +1,106 @@
+-- What follows from the definitions of memory of one piece.
+use Rattle.std.specs.Prelude.{Option, IfSome, is_some, unwrap_or, nat_le, ◌⊎◌}
+use Rattle.std.specs.List.{All}
+use Rattle.std.proofs.Common.{◌≡◌, ℕ, zero, suc, ◌+◌, ◌*◌, ◌-◌, ◌%◌, ◌^◌, ◌<◌, ◌≤◌, ◌≢◌, List, [], ◌∷◌, ◌++◌, length, take, drop, Some, None, Bool, true, false, cond, refl, ap, ◌∙◌, sym, subst, arith, inl, inr, ⊎_elim, get_or, slice_set, slice_get}
+use Rattle.std.proofs.Math.ListN.{length-set}
+use Rattle.std.proofs.lemmas.Bool.{le-leb, cases_lt}
+use Rattle.std.proofs.lemmas.Bool.Decides.{leb_tells, nat_tests}
+use Rattle.std.proofs.lemmas.List.{take-set-le, drop-set-lt, drop-take, get_or-set_other, take_at, drop_at, length-take-le, append_assoc}
+use Rattle.std.proofs.lemmas.List.Elements.{All-replicate}
+use Rattle.sl_model.specs.Pages.{from_bytes, low_bytes, put_bytes}
+use Rattle.sl_model.specs.Stores.{IsElsewhere}
+use Rattle.sl_model.proofs.PagesLaws.{length-low_bytes, All-low_bytes, length-put_bytes, All-put_bytes, put_bytes-between}
+use Rattle.sl_model.proofs.Memory.{from_bytes-low_bytes}
+use Rattle.undo_bank.specs.Dense.{load_in, store_in}
+
+within : (n m : ℕ) → n ≤ m → nat_le n m ≡ true
+within n m le = grind (arith, nat_tests)
+
+past : (n m : ℕ) → m < n → nat_le n m ≡ false
+past n m lt = grind (arith, nat_tests)
+
+-- ---- where bytes stand, and where they don't
+
+pub load_in-within : (bytes : List ℕ) (offset width : ℕ) → offset + width ≤ length bytes → load_in bytes offset width ≡ Some (from_bytes (take width (drop offset bytes)))
+unfolding load_in
+load_in-within bytes offset width le = rw (within (offset + width) (length bytes) le) refl
+
+pub load_in-past : (bytes : List ℕ) (offset width : ℕ) → length bytes < offset + width → load_in bytes offset width ≡ None
+unfolding load_in
+load_in-past bytes offset width lt = rw (past (offset + width) (length bytes) lt) refl
+
+pub store_in-within : (bytes : List ℕ) (offset width value : ℕ) → offset + width ≤ length bytes → store_in bytes offset width value ≡ Some (put_bytes bytes offset (low_bytes width value))
+unfolding store_in
+store_in-within bytes offset width value le = rw (within (offset + width) (length bytes) le) refl
+
+pub store_in-past : (bytes : List ℕ) (offset width value : ℕ) → length bytes < offset + width → store_in bytes offset width value ≡ None
+unfolding store_in
+store_in-past bytes offset width value lt = rw (past (offset + width) (length bytes) lt) refl
+
+-- ---- bytes that are put into others
+
+take-put : (page : List ℕ) (index : ℕ) (bytes : List ℕ) (count : ℕ) → count ≤ index → take count (put_bytes page index bytes) ≡ take count page
+unfolding put_bytes
+take-put page index [] count before = refl
+take-put page index (b ∷ bs) count before = take-put (slice_set page index b) (index + 1) bs count (omega arith) ∙ take-set-le count page index b before
+
+drop-put : (page : List ℕ) (index : ℕ) (bytes : List ℕ) (count : ℕ) → index + length bytes ≤ count → drop count (put_bytes page index bytes) ≡ drop count page
+unfolding put_bytes
+drop-put page index [] count behind = refl
+drop-put page index (b ∷ bs) count behind = drop-put (slice_set page index b) (index + 1) bs count (omega arith) ∙ drop-set-lt count page index b (omega arith)
+
+-- the bytes stand where they were put
+taken-put : (page : List ℕ) (index : ℕ) (bytes : List ℕ) → index + length bytes ≤ length page → take (length bytes) (drop index (put_bytes page index bytes)) ≡ bytes
+taken-put page index bytes inside =
+    ap (λ l. take (length bytes) (drop index l)) (put_bytes-between page index bytes inside)
+    ∙ ap (take (length bytes)) (drop_at (take index page) (bytes ++ drop (index + length bytes) page) index (length-take-le index page (omega arith)))
+    ∙ take_at bytes (drop (index + length bytes) page) (length bytes) refl
+
+-- a byte behind them stays
+pub get_or-put : (page : List ℕ) (index : ℕ) (bytes : List ℕ) (other : ℕ) → index + length bytes ≤ other → get_or (put_bytes page index bytes) other 0 ≡ get_or page other 0
+unfolding put_bytes
+get_or-put page index [] other behind = refl
+get_or-put page index (b ∷ bs) other behind = get_or-put (slice_set page index b) (index + 1) bs other (omega arith) ∙ get_or-set_other page index other b 0 (λ same. omega arith)
+
+-- ---- what a store does
+
+-- the bytes after a store
+abbrev pub stored_in : List ℕ → ℕ → ℕ → ℕ → List ℕ
+stored_in bytes offset width value = put_bytes bytes offset (low_bytes width value)
+
+pub length-stored : (bytes : List ℕ) (offset width value : ℕ) → length (stored_in bytes offset width value) ≡ length bytes
+length-stored bytes offset width value = length-put_bytes bytes offset (low_bytes width value)
+
+pub All-stored : (bytes : List ℕ) (offset width value : ℕ) → All (λ b. b < 256) bytes → All (λ b. b < 256) (stored_in bytes offset width value)
+All-stored bytes offset width value all = All-put_bytes (λ b. b < 256) bytes offset (low_bytes width value) all (All-low_bytes width value)
+
+-- a load of what was stored gives it, modulo the numbers that so many bytes hold
+pub load-stored : (bytes : List ℕ) (offset width value : ℕ) → offset + width ≤ length bytes → load_in (stored_in bytes offset width value) offset width ≡ Some (value % 256 ^ width)
+load-stored bytes offset width value inside =
+    let low : List ℕ = low_bytes width value in
+    let long : length low ≡ width = length-low_bytes width value in
+    let taken : take width (drop offset (put_bytes bytes offset low)) ≡ low = rw long at (taken-put bytes offset low (omega arith)) in
+    load_in-within (stored_in bytes offset width value) offset width (omega (arith, length-stored bytes offset width value))
+    ∙ ap (λ l. Some (from_bytes l)) taken ∙ ap Some (from_bytes-low_bytes width value)
+
+-- what is loaded from elsewhere stays
+pub load-elsewhere : (bytes : List ℕ) (offset width value other count : ℕ) → (other + count ≤ offset) ⊎ (offset + width ≤ other) → load_in (stored_in bytes offset width value) other count ≡ load_in bytes other count
+load-elsewhere bytes offset width value other count outside = ⊎_elim
+    (λ (inside : other + count ≤ length bytes).
+    load_in-within (stored_in bytes offset width value) other count (omega (arith, length-stored bytes offset width value))
+    ∙ ap (λ l. Some (from_bytes l)) same ∙ sym (load_in-within bytes other count inside))
+    (λ (over : length bytes < other + count).
+    load_in-past (stored_in bytes offset width value) other count (omega (arith, length-stored bytes offset width value)) ∙ sym (load_in-past bytes other count over))
+    (sides (other + count) (length bytes))
+  where
+    sides : (n m : ℕ) → (n ≤ m) ⊎ (m < n)
+    sides n m = ⊎_elim (λ (h : m < n). inr h) (λ (h : n ≤ m). inl h) (cases_lt m n)
+
+    same : take count (drop other (stored_in bytes offset width value)) ≡ take count (drop other bytes)
+    same = ⊎_elim
+        (λ (before : other + count ≤ offset).
+        sym (drop-take other count (stored_in bytes offset width value))
+        ∙ ap (drop other) (take-put bytes offset (low_bytes width value) (other + count) before) ∙ drop-take other count bytes)
+        (λ (behind : offset + width ≤ other).
+        ap (take count) (drop-put bytes offset (low_bytes width value) other (omega (arith, length-low_bytes width value))))
+        outside

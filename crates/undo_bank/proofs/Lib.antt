@@ -1,0 +1,2 @@
+pub mod DenseLaws
+pub mod LayLaws

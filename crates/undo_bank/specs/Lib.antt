@@ -1,0 +1,4 @@
+pub mod Dense
+pub mod Written
+pub mod Areas
+pub mod Fields

@@ -1,0 +1,12 @@
+//! The bank that a compiled tracer runs in: its code, its frames, the log of what it stored over,
+//! and its output. They are the areas of a memory of its own, beside the program's.
+#![tactic(auto)]
+
+mod area;
+mod bank;
+mod bank_bus;
+#[cfg(test)]
+mod tests;
+
+pub use bank::Bank;
+pub use bank_bus::BankBus;
