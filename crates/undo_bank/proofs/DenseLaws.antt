@@ -1,17 +1,16 @@
 -- What follows from the definitions of memory of one piece.
 use Rattle.std.specs.Prelude.{Option, IfSome, is_some, unwrap_or, nat_le, ◌⊎◌}
 use Rattle.std.specs.List.{All}
-use Rattle.std.proofs.Common.{◌≡◌, ℕ, zero, suc, ◌+◌, ◌*◌, ◌-◌, ◌%◌, ◌^◌, ◌<◌, ◌≤◌, ◌≢◌, List, [], ◌∷◌, ◌++◌, length, take, drop, Some, None, Bool, true, false, cond, refl, ap, ◌∙◌, sym, subst, arith, inl, inr, ⊎_elim, get_or, slice_set, slice_get}
+use Rattle.std.proofs.Common.{◌≡◌, ℕ, zero, suc, ◌+◌, ◌*◌, ◌-◌, ◌%◌, ◌^◌, ◌<◌, ◌≤◌, ◌≢◌, List, [], ◌∷◌, ◌++◌, length, take, drop, replicate, Some, None, Bool, true, false, cond, refl, ap, ◌∙◌, sym, subst, arith, inl, inr, ⊎_elim, get_or, slice_set, slice_get}
 use Rattle.std.proofs.Math.ListN.{length-set}
-use Rattle.std.proofs.lemmas.Bool.{le-leb, cases_lt}
-use Rattle.std.proofs.lemmas.Bool.Decides.{leb_tells, nat_tests}
-use Rattle.std.proofs.lemmas.List.{take-set-le, drop-set-lt, drop-take, get_or-set_other, take_at, drop_at, length-take-le, append_assoc}
-use Rattle.std.proofs.lemmas.List.Elements.{All-replicate}
+use Rattle.std.proofs.lemmas.Bool.{cases_lt, cases_eq}
+use Rattle.std.proofs.lemmas.Bool.Decides.{nat_tests}
+use Rattle.std.proofs.lemmas.List.{take-set-le, drop-set-lt, drop-take, get_or-set_other, take_at, drop_at, length-take-le, length-take, length-drop, length-append, length-replicate, get_or-replicate, get_or_past, get_or_append_left, get_or-append_right, get_or-drop, get_or-take, ext_get_or, drop-replicate, take-replicate}
 use Rattle.sl_model.specs.Pages.{from_bytes, low_bytes, put_bytes}
 use Rattle.sl_model.specs.Stores.{IsElsewhere}
 use Rattle.sl_model.proofs.PagesLaws.{length-low_bytes, All-low_bytes, length-put_bytes, All-put_bytes, put_bytes-between}
 use Rattle.sl_model.proofs.Memory.{from_bytes-low_bytes}
-use Rattle.undo_bank.specs.Dense.{load_in, store_in}
+use Rattle.undo_bank.specs.Dense.{load_in, store_in, HoldsWords}
 
 within : (n m : ℕ) → n ≤ m → nat_le n m ≡ true
 within n m le = grind (arith, nat_tests)
@@ -104,3 +103,56 @@ load-elsewhere bytes offset width value other count outside = ⊎_elim
         (λ (behind : offset + width ≤ other).
         ap (take count) (drop-put bytes offset (low_bytes width value) other (omega (arith, length-low_bytes width value))))
         outside
+
+-- ---- zeros
+
+pub get_or-zeros : (n i : ℕ) → get_or {A = ℕ} (replicate n 0) i 0 ≡ 0
+get_or-zeros n i = ⊎_elim
+    (λ (inside : i < n). get_or-replicate n i 0 0 inside)
+    (λ (past : n ≤ i). get_or_past (replicate n 0) i 0 (omega (arith, length-replicate {A = ℕ} n 0)))
+    (cases_lt i n)
+
+-- bytes that are 0 from an index on are zeros once those before it are made 0
+pub zeros-cleared : (bytes : List ℕ) (count : ℕ) → count ≤ length bytes → ((i : ℕ) → count ≤ i → get_or bytes i 0 ≡ 0) → replicate {A = ℕ} count 0 ++ drop count bytes ≡ replicate (length bytes) 0
+zeros-cleared bytes count inside none = ext_get_or 0 _ _ (omega (arith, length-append (replicate count 0) (drop count bytes), length-replicate {A = ℕ} count 0, length-drop count bytes, length-replicate {A = ℕ} (length bytes) 0)) (λ i inside. of i ∙ sym (get_or-zeros (length bytes) i))
+  where
+    of : (i : ℕ) → get_or (replicate count 0 ++ drop count bytes) i 0 ≡ 0
+    of i = ⊎_elim
+        (λ (before : i < count). get_or_append_left (replicate count 0) (drop count bytes) 0 i (omega (arith, length-replicate {A = ℕ} count 0)) ∙ get_or-zeros count i)
+        (λ (behind : count ≤ i).
+        let place : count + (i - count) ≡ i = omega arith in
+        get_or-append_right (replicate count 0) (drop count bytes) count i 0 (length-replicate {A = ℕ} count 0) behind
+        ∙ get_or-drop count bytes (i - count) 0 ∙ ap (λ n. get_or bytes n 0) place ∙ none i behind)
+        (cases_lt i count)
+
+-- ---- words
+
+-- zeros hold no words
+pub HoldsWords-zeros : (n : ℕ) → n % 4 ≡ 0 → HoldsWords [] (replicate n 0)
+HoldsWords-zeros n whole index below =
+    let long : length {A = ℕ} (replicate n 0) ≡ n = length-replicate {A = ℕ} n 0 in
+    let inside : 4 * index + 4 ≤ n = omega arith in
+    let left : 4 ≤ n - 4 * index = omega arith in
+    load_in-within (replicate n 0) (4 * index) 4 (omega arith)
+    ∙ ap (λ l. Some (from_bytes (take 4 l))) (drop-replicate (4 * index) n 0)
+    ∙ ap (λ l. Some (from_bytes l)) (take-replicate 4 (n - 4 * index) 0 left)
+
+other_word : (words : List ℕ) (k index : ℕ) → index ≢ k → get_or (take (k + 1) words) index 0 ≡ get_or (take k words) index 0
+other_word words k index apart = ⊎_elim
+    (λ (before : index < k). get_or-take (k + 1) words index 0 (omega arith) ∙ sym (get_or-take k words index 0 before))
+    (λ (from : k ≤ index).
+    let behind : k < index = omega arith in
+    get_or_past (take (k + 1) words) index 0 (omega (arith, length-take (k + 1) words)) ∙ sym (get_or_past (take k words) index 0 (omega (arith, length-take k words))))
+    (cases_lt index k)
+
+-- one more word
+pub HoldsWords-more : (words bytes : List ℕ) (k : ℕ) → 4 * k + 4 ≤ length bytes → get_or words k 0 < 2 ^ 32 → HoldsWords (take k words) bytes → HoldsWords (take (k + 1) words) (stored_in bytes (4 * k) 4 (get_or words k 0))
+HoldsWords-more words bytes k inside small holds index below = ⊎_elim
+    (λ (same : index ≡ k).
+    let whole : get_or words k 0 % 256 ^ 4 ≡ get_or words k 0 = omega arith in
+    rw same (load-stored bytes (4 * k) 4 (get_or words k 0) inside ∙ ap Some (whole ∙ sym (get_or-take (k + 1) words k 0 (omega arith)))))
+    (λ (apart : index ≢ k).
+    let sides : (4 * index + 4 ≤ 4 * k) ⊎ (4 * k + 4 ≤ 4 * index) = ⊎_elim (λ (before : index < k). inl (omega arith)) (λ (from : k ≤ index). inr (omega arith)) (cases_lt index k) in
+    load-elsewhere bytes (4 * k) 4 (get_or words k 0) (4 * index) 4 sides
+    ∙ holds index (omega (arith, length-stored bytes (4 * k) 4 (get_or words k 0))) ∙ ap Some (sym (other_word words k index apart)))
+    (cases_eq index k)

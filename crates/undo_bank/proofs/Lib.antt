@@ -1,2 +1,3 @@
 pub mod DenseLaws
 pub mod LayLaws
+pub mod AreasLaws

@@ -1,12 +1,15 @@
 -- The areas of a bank, and the memory that they make, alone and over that of a program.
-use Rattle.std.specs.Prelude.{◌≡◌, ℕ, zero, suc, ◌+◌, ◌*◌, ◌/◌, ◌%◌, ◌<◌, ◌≤◌, List, [], length, take, drop, IsSome, refl}
+use Rattle.std.specs.Prelude.{◌≡◌, ℕ, zero, suc, ◌+◌, ◌*◌, ◌/◌, ◌%◌, ◌<◌, ◌≤◌, ◌==◌, List, [], length, take, drop, Option, None, IsSome, if◌then◌else◌, refl}
 use Rattle.std.specs.List.{All}
+use Rattle.std.specs.Option.{option_map}
 use Rattle.std.specs.FinMap.{get, insert, empty}
 use Rattle.std.specs.Coded.{Coded, code_by, coded×, coded_ℕ, coded_list}
 use Rattle.sl_model.specs.declared.bank.TheConstants.{CODE_START, MOST_CODE_WORDS, FRAMES_START, FRAMES_SIZE, LOG_START, LOG_SIZE, OUTPUT_START, OUTPUT_SIZE}
 use Rattle.sl_model.specs.declared.layout.TheConstants.{PAGE_SIZE, PROGRAM_PAGES}
 use Rattle.sl_model.specs.Pages.{Pages}
 use Rattle.sl_model.specs.Bank.{IsArea, code_size}
+use Rattle.undo_bank.specs.declared.regions.TheConstants.{REGION, CODE, FRAMES, LOG, OUTPUT}
+use Rattle.undo_bank.specs.Dense.{load_in, store_in}
 
 -- what a bank holds: the bytes of its areas, and how many entries the last undo put back
 pub record Areas : Type 0 where
@@ -69,6 +72,30 @@ areas_over a pages =
 -- the memory of the areas alone
 abbrev pub bank_pages : Areas → Pages
 bank_pages a = areas_over a empty
+
+-- what a load of bytes of the areas gives, or None where one of them is in no area
+unfoldable pub load_from : Areas → ℕ → ℕ → Option ℕ
+load_from a address width =
+    let offset : ℕ = address % REGION in
+    if address / REGION == CODE then load_in a.code offset width
+    else if address / REGION == FRAMES then load_in a.frames offset width
+    else if address / REGION == LOG then load_in a.log offset width
+    else if address / REGION == OUTPUT then load_in a.output offset width
+    else None
+
+-- the areas after a store to bytes of theirs, or None where one of them is in no area
+unfoldable pub store_to : Areas → ℕ → ℕ → ℕ → Option Areas
+store_to a address width value =
+    let offset : ℕ = address % REGION in
+    if address / REGION == CODE
+    then option_map (λ bytes. record a { code = bytes }) (store_in a.code offset width value)
+    else if address / REGION == FRAMES
+    then option_map (λ bytes. record a { frames = bytes }) (store_in a.frames offset width value)
+    else if address / REGION == LOG
+    then option_map (λ bytes. record a { log = bytes }) (store_in a.log offset width value)
+    else if address / REGION == OUTPUT
+    then option_map (λ bytes. record a { output = bytes }) (store_in a.output offset width value)
+    else None
 
 -- memory of a program: none of its pages is a bank's
 abbrev pub IsProgram : Pages → Type 0

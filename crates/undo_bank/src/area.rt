@@ -1,6 +1,6 @@
 //! One area of a bank.
 
-ghost use Rattle.std.specs.Prelude.{◌≡◌, ◌+◌, ◌*◌, ◌<◌, ◌≤◌, ◌^◌, length, replicate, is_some, unwrap_or, IfOk, IfSome};
+ghost use Rattle.std.specs.Prelude.{◌≡◌, ◌+◌, ◌*◌, ◌<◌, ◌≤◌, ◌%◌, ◌^◌, ◌++◌, length, drop, replicate, is_some, unwrap_or, IfOk, IfSome};
 ghost use Rattle.std.specs.List.{All};
 ghost use Rattle.sl_model.specs.Pages.{IsWidth, from_bytes, low_bytes, put_bytes};
 ghost use Rattle.undo_bank.specs.Dense.{load_in, store_in, HoldsWords};
@@ -84,14 +84,16 @@ impl Area {
     fn clear(&mut self)
         ensures { self.new ≡ replicate (length self.old) 0 }
     {
-        zero(&mut self.bytes[..self.written]);
+        zero(&mut self.bytes, self.written);
         self.written = 0;
     }
 
     /// Makes the area begin with these words, the lowest byte of each first, and makes every byte
     /// behind them 0.
     pub(crate) fn restart(&mut self, words: &[u32])
-        requires { 4 * length words.now ≤ length self.old }
+        requires whole { length self.old % 4 ≡ 0 }
+        requires fits { 4 * length words.now ≤ length self.old }
+        requires few { length words.now < 2 ^ 30 }
         ensures words { HoldsWords words.now self.new }
         ensures size { length self.new ≡ length self.old }
         ensures bytes { All (λ b. b < 256) self.new }
@@ -105,11 +107,12 @@ impl Area {
     }
 }
 
-/// Makes bytes 0.
-fn zero(bytes: &mut [u8])
-    ensures { bytes.new ≡ replicate (length bytes.old) 0 }
+/// Makes the first `count` bytes 0.
+fn zero(bytes: &mut [u8], count: usize)
+    requires { count ≤ length bytes.old }
+    ensures { bytes.new ≡ replicate count 0 ++ drop count bytes.old }
 {
-    bytes.fill(0);
+    bytes[..count].fill(0);
 }
 
 /// The number in some bytes, the lowest first.

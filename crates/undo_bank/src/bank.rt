@@ -1,19 +1,20 @@
 //! The bank.
 
-ghost use Rattle.std.specs.Prelude.{◌≡◌, ◌+◌, ◌*◌, ◌<◌, ◌≤◌, ◌∷◌, [], ℕ, length, nat_lt, if◌then◌else◌, None, IfOk, ◌≢◌};
+ghost use Rattle.std.specs.Prelude.{◌≡◌, ◌+◌, ◌*◌, ◌<◌, ◌≤◌, ◌∷◌, [], ℕ, ◌^◌, length, nat_lt, if◌then◌else◌, None, IfOk, IfSome, is_some, unwrap_or, ◌≢◌};
 ghost use Rattle.std.specs.Bool.{OnTrue, OnFalse};
-ghost use Rattle.sl_model.specs.Pages.{IsWidth, load_at};
+ghost use Rattle.sl_model.specs.Pages.{IsWidth, load_at, store_at};
 ghost use Rattle.sl_model.specs.Marks.{MarksGoOn};
 ghost use Rattle.sl_model.specs.Undo.{undone, entry_at, log_count, log_of, word_at};
 ghost use Rattle.sl_model.specs.Bank.{output_count};
-ghost use Rattle.undo_bank.specs.Areas.{AreAreas, IsMadeFrom, IsStarted, bank_pages};
+ghost use Rattle.undo_bank.specs.Areas.{AreAreas, IsMadeFrom, IsStarted, bank_pages, load_from, store_to};
 
 use crate::area::Area;
+use crate::regions::{CODE, FRAMES, LOG, OUTPUT, REGION};
 use page_frames::Frames;
 use sl_base::Memory;
 use sl_model::{
-    Bus, CODE_START, ENTRY_SIZE, FRAMES_SIZE, FRAMES_START, LOG_SIZE, LOG_START, MOST_CODE_WORDS,
-    MOST_ENTRIES, MOST_OUTPUT_WORDS, OUTPUT_SIZE, OUTPUT_START, PAGE_SIZE,
+    Bus, ENTRY_SIZE, FRAMES_SIZE, LOG_SIZE, MOST_CODE_WORDS, MOST_ENTRIES, MOST_OUTPUT_WORDS,
+    OUTPUT_SIZE, OUTPUT_START, PAGE_SIZE,
 };
 use std::alloc::Global;
 use std::marker::Model;
@@ -186,7 +187,12 @@ impl Bus for Bank {
     ghost is_marking = { λ _. false };
 
     #[inline(always)]
-    fn load(&self, addr: u32, width: u8) -> Option<u32> {
+    fn load(&self, addr: u32, width: u8) -> Option<u32>
+        requires { IsWidth width }
+        ensures value { result ≡ load_at (bank_pages self.now) addr width }
+        ensures fits { IfSome result (λ n. n < 256 ^ width) }
+        ensures areas { result ≡ load_from self.now addr width }
+    {
         let offset = addr % REGION;
         match addr / REGION {
             CODE => self.code.load(offset, width),
@@ -198,7 +204,14 @@ impl Bus for Bank {
     }
 
     #[inline(always)]
-    fn store(&mut self, addr: u32, width: u8, value: u32) -> bool {
+    fn store(&mut self, addr: u32, width: u8, value: u32) -> bool
+        requires { IsWidth width }
+        ensures mapped { result ≡ is_some (store_at (bank_pages self.old) addr width value) }
+        ensures bytes { bank_pages self.new
+            ≡ unwrap_or (store_at (bank_pages self.old) addr width value) (bank_pages self.old) }
+        ensures done { result ≡ is_some (store_to self.old addr width value) }
+        ensures areas { self.new ≡ unwrap_or (store_to self.old addr width value) self.old }
+    {
         let offset = addr % REGION;
         match addr / REGION {
             CODE => self.code.store(offset, width, value),
@@ -209,18 +222,3 @@ impl Bus for Bank {
         }
     }
 }
-
-/// Each area lies at the begin of a region of so many bytes of the address space.
-const REGION: u32 = 0x1000_0000;
-
-/// The number of the region of the code.
-const CODE: u32 = CODE_START / REGION;
-
-/// The number of the region of the frames.
-const FRAMES: u32 = FRAMES_START / REGION;
-
-/// The number of the region of the log.
-const LOG: u32 = LOG_START / REGION;
-
-/// The number of the region of the output.
-const OUTPUT: u32 = OUTPUT_START / REGION;

@@ -5,6 +5,7 @@
 mod area;
 mod bank;
 mod bank_bus;
+mod regions;
 #[cfg(test)]
 mod tests;
 
