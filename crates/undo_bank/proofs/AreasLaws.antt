@@ -353,9 +353,9 @@ store-above a base address width value are program whole some from to = of (regi
 
 -- ---- and below it, of the program's memory
 
-pub get-below : (a : Areas) (base : Pages) (page : ℕ) → AreAreas a → page < 0xC0000 → get (areas_over a base) page ≡ get base page
+pub get-below : (a : Areas) (base : Pages) (page : ℕ) → page < 0xC0000 → get (areas_over a base) page ≡ get base page
 unfolding areas_over
-get-below a base page are below =
+get-below a base page below =
     get-lay_elsewhere 0xC0000 (length a.code / 4096) a.code (over_frames a base) page (inl (omega arith))
     ∙ get-lay_elsewhere 0xD0000 (length a.frames / 4096) a.frames (over_log a base) page (inl (omega arith))
     ∙ get-lay_elsewhere 0xE0000 (length a.log / 4096) a.log (over_output a base) page (inl (omega arith))
@@ -371,9 +371,9 @@ bytes-same first second address (suc count) same =
     ap (byte_at first) next ∙ same (k + 1) (omega arith) ∙ ap (byte_at second) (sym next)) in
     rw (here, rest) refl
 
-byte-below : (a : Areas) (base : Pages) (address : ℕ) → AreAreas a → address < CODE_START → byte_at (areas_over a base) address ≡ byte_at base address
+byte-below : (a : Areas) (base : Pages) (address : ℕ) → address < CODE_START → byte_at (areas_over a base) address ≡ byte_at base address
 unfolding byte_at
-byte-below a base address are below = rw (get-below a base (address / 4096) are (omega arith)) refl
+byte-below a base address below = ap (option_and_then (λ page. slice_get page (address % 4096))) (get-below a base (address / 4096) (omega arith))
 
 -- the last page below the areas is never mapped
 no_last_page : (base : Pages) (address : ℕ) → IsProgram base → 0xBFFFF000 ≤ address → get base (address / 4096) ≡ None
@@ -388,17 +388,17 @@ unfolding bytes_at
 no_bytes pages address zero some none = absurd (omega arith)
 no_bytes pages address (suc count) some none = no_first (byte_at pages address) (bytes_at pages (address + 1) count) (byte_at-none pages address none)
 
-bytes-below : (a : Areas) (base : Pages) (address width : ℕ) → AreAreas a → IsProgram base → 0 < width → width ≤ 4 → address < CODE_START → bytes_at (areas_over a base) address width ≡ bytes_at base address width
-bytes-below a base address width are program some few below = ⊎_elim
-    (λ (inside : address < 0xBFFFF000). bytes-same (areas_over a base) base address width (λ k within. byte-below a base (address + k) are (omega arith)))
+bytes-below : (a : Areas) (base : Pages) (address width : ℕ) → IsProgram base → 0 < width → width ≤ 4 → address < CODE_START → bytes_at (areas_over a base) address width ≡ bytes_at base address width
+bytes-below a base address width program some few below = ⊎_elim
+    (λ (inside : address < 0xBFFFF000). bytes-same (areas_over a base) base address width (λ k within. byte-below a base (address + k) (omega arith)))
     (λ (last : 0xBFFFF000 ≤ address).
-    no_bytes (areas_over a base) address width some (get-below a base (address / 4096) are (omega arith) ∙ no_last_page base address program last)
+    no_bytes (areas_over a base) address width some (get-below a base (address / 4096) (omega arith) ∙ no_last_page base address program last)
     ∙ sym (no_bytes base address width some (no_last_page base address program last)))
     (cases_lt address 0xBFFFF000)
 
-pub load-below : (a : Areas) (base : Pages) (address width : ℕ) → AreAreas a → IsProgram base → 0 < width → width ≤ 4 → address < CODE_START → load_at (areas_over a base) address width ≡ load_at base address width
+pub load-below : (a : Areas) (base : Pages) (address width : ℕ) → IsProgram base → 0 < width → width ≤ 4 → address < CODE_START → load_at (areas_over a base) address width ≡ load_at base address width
 unfolding load_at
-load-below a base address width are program some few below = ap (option_map from_bytes) (bytes-below a base address width are program some few below)
+load-below a base address width program some few below = ap (option_map from_bytes) (bytes-below a base address width program some few below)
 
 set-below : (a : Areas) (base : Pages) (address : ℕ) (new : List ℕ) → AreAreas a → address + length new ≤ CODE_START → set_bytes (areas_over a base) address new ≡ areas_over a (set_bytes base address new)
 unfolding areas_over
@@ -412,7 +412,7 @@ pub store-below : (a : Areas) (base : Pages) (address width value : ℕ) → Are
     → store_at (areas_over a base) address width value ≡ option_map (areas_over a) (store_at base address width value)
 unfolding store_at
 store-below a base address width value are program some few below =
-    ap (option_map (λ _. set_bytes (areas_over a base) address (low_bytes width value))) (bytes-below a base address width are program some few below)
+    ap (option_map (λ _. set_bytes (areas_over a base) address (low_bytes width value))) (bytes-below a base address width program some few below)
     ∙ ⊎_elim
     (λ (inside : address < 0xBFFFF000).
     ap (λ (p : Pages). option_map {T = List ℕ} (λ _. p) (bytes_at base address width)) (set-below a base address (low_bytes width value) are (omega (arith, length-low_bytes width value)))

@@ -1,3 +1,5 @@
 pub mod DenseLaws
 pub mod LayLaws
 pub mod AreasLaws
+pub mod LogLaws
+pub mod Buses

@@ -3,7 +3,7 @@
 ghost use Rattle.std.specs.Prelude.{◌≡◌, ◌+◌, ◌*◌, ◌<◌, ◌≤◌, ◌%◌, ◌^◌, ◌++◌, length, drop, replicate, is_some, unwrap_or, IfOk, IfSome};
 ghost use Rattle.std.specs.List.{All};
 ghost use Rattle.sl_model.specs.Pages.{IsWidth, from_bytes, low_bytes, put_bytes};
-ghost use Rattle.undo_bank.specs.Dense.{load_in, store_in, HoldsWords};
+ghost use Rattle.undo_bank.specs.Dense.{load_in, store_in, word_in, HoldsWords};
 
 use sl_base::Memory;
 use std::alloc::Global;
@@ -57,7 +57,7 @@ impl Area {
     /// The little-endian number in the four bytes from an index on, or 0 where the area ends before
     /// them.
     pub(crate) fn word(&self, offset: u32) -> u32
-        ensures { result ≡ unwrap_or (load_in self.now offset 4) 0 }
+        ensures { result ≡ word_in self.now offset }
     {
         self.load(offset, 4).unwrap_or(0)
     }

@@ -4,7 +4,7 @@ ghost use Rattle.std.specs.Prelude.{◌≡◌, ◌+◌, ◌*◌, ◌<◌, ◌≤
 ghost use Rattle.std.specs.Bool.{OnTrue, OnFalse};
 ghost use Rattle.sl_model.specs.Pages.{IsWidth, load_at, store_at};
 ghost use Rattle.sl_model.specs.Marks.{MarksGoOn};
-ghost use Rattle.sl_model.specs.Undo.{undone, entry_at, log_count, log_of, word_at};
+ghost use Rattle.sl_model.specs.Undo.{put_back, undone, entry_at, log_count, log_of, word_at};
 ghost use Rattle.sl_model.specs.Bank.{output_count};
 ghost use Rattle.undo_bank.specs.Areas.{AreAreas, IsMadeFrom, IsStarted, bank_pages, load_from, store_to};
 
@@ -131,7 +131,11 @@ impl Bank {
     }
 
     /// Puts the old value of one entry back.
-    fn put_back(&self, index: u32, f: &mut Frames) {
+    fn put_back(&self, index: u32, f: &mut Frames)
+        requires { index < MOST_ENTRIES }
+        ensures pages { f.new.pages ≡ put_back (entry_at (bank_pages self.now) index) f.old.pages }
+        ensures marks { MarksGoOn true f.old.pages f.old.dirty f.new.pages f.new.dirty }
+    {
         let entry = 4 + ENTRY_SIZE * index;
         let addr = self.log.word(entry);
         let width = self.log.word(entry + 4);
@@ -177,21 +181,23 @@ impl Bank {
     }
 }
 
-impl Bus for Bank {
-    ghost use Rattle.undo_bank.specs.Areas.{bank_pages};
-
-    ghost pages = { bank_pages };
-
-    ghost marked = { λ _. [] };
-
-    ghost is_marking = { λ _. false };
-
+impl Bank {
+    /// Tells a proof what holds of every bank, and does nothing.
     #[inline(always)]
-    fn load(&self, addr: u32, width: u8) -> Option<u32>
+    pub(crate) fn known(&self)
+        ensures { AreAreas self.now }
+    {
+        let _ = &self.code;
+    }
+
+    /// A load from the area in whose region the address lies.
+    #[inline(always)]
+    #[tactic(auto, unfolding(crate::specs::Areas::load_from))]
+    fn load_from(&self, addr: u32, width: u8) -> Option<u32>
         requires { IsWidth width }
-        ensures value { result ≡ load_at (bank_pages self.now) addr width }
-        ensures fits { IfSome result (λ n. n < 256 ^ width) }
         ensures areas { result ≡ load_from self.now addr width }
+        ensures fits { IfSome result (λ n. n < 256 ^ width) }
+        ensures kept { AreAreas self.now }
     {
         let offset = addr % REGION;
         match addr / REGION {
@@ -203,14 +209,14 @@ impl Bus for Bank {
         }
     }
 
+    /// A store to the area in whose region the address lies.
     #[inline(always)]
-    fn store(&mut self, addr: u32, width: u8, value: u32) -> bool
+    fn store_to(&mut self, addr: u32, width: u8, value: u32) -> bool
         requires { IsWidth width }
-        ensures mapped { result ≡ is_some (store_at (bank_pages self.old) addr width value) }
-        ensures bytes { bank_pages self.new
-            ≡ unwrap_or (store_at (bank_pages self.old) addr width value) (bank_pages self.old) }
         ensures done { result ≡ is_some (store_to self.old addr width value) }
         ensures areas { self.new ≡ unwrap_or (store_to self.old addr width value) self.old }
+        ensures fixed { length self.new.code ≡ length self.old.code }
+        ensures kept { AreAreas self.old }
     {
         let offset = addr % REGION;
         match addr / REGION {
@@ -220,5 +226,44 @@ impl Bus for Bank {
             OUTPUT => self.output.store(offset, width, value),
             _ => false,
         }
+    }
+}
+
+impl Bus for Bank {
+    ghost use Rattle.undo_bank.specs.Areas.{bank_pages};
+
+    ghost pages = { bank_pages };
+
+    ghost marked = { λ _. [] };
+
+    ghost is_marking = { λ _. false };
+
+    ghost Fixed = { ℕ };
+
+    ghost fixed = { λ bank. length bank.code };
+
+    #[inline(always)]
+    fn load(&self, addr: u32, width: u8) -> Option<u32>
+        requires { IsWidth width }
+        ensures value { result ≡ load_at (bank_pages self.now) addr width }
+        ensures fits { IfSome result (λ n. n < 256 ^ width) }
+        ensures areas { result ≡ load_from self.now addr width }
+        ensures kept { AreAreas self.now }
+    {
+        self.load_from(addr, width)
+    }
+
+    #[inline(always)]
+    fn store(&mut self, addr: u32, width: u8, value: u32) -> bool
+        requires { IsWidth width }
+        ensures mapped { result ≡ is_some (store_at (bank_pages self.old) addr width value) }
+        ensures bytes { bank_pages self.new
+            ≡ unwrap_or (store_at (bank_pages self.old) addr width value) (bank_pages self.old) }
+        ensures fixed { length self.new.code ≡ length self.old.code }
+        ensures done { result ≡ is_some (store_to self.old addr width value) }
+        ensures areas { self.new ≡ unwrap_or (store_to self.old addr width value) self.old }
+        ensures kept { AreAreas self.old }
+    {
+        self.store_to(addr, width, value)
     }
 }

@@ -1,0 +1,10 @@
+use Rattle.std.specs.FinMap.{empty}
+use Rattle.std.proofs.Common.{◌≡◌, ap, ◌∙◌, sym}
+use Rattle.sl_model.specs.Bank.{output_count}
+use Rattle.undo_bank.specs.Areas.{bank_pages, Areas}
+use Rattle.undo_bank.proofs.LogLaws.{output_count-areas, IsProgram-empty}
+use Rattle.undo_bank.proofs.bank.Bank.out_len.Goals as goal
+
+pub returns-clause-count : goal.returns-clause-count
+returns-clause-count c =
+    c.word.ensures ∙ sym (output_count-areas _ empty c.self.invariant IsProgram-empty) ∙ ap (λ (a : Areas). output_count (bank_pages a)) c.self.view_is
