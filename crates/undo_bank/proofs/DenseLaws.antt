@@ -6,6 +6,7 @@ use Rattle.std.proofs.Math.ListN.{length-set}
 use Rattle.std.proofs.lemmas.Bool.{cases_lt, cases_eq}
 use Rattle.std.proofs.lemmas.Bool.Decides.{nat_tests}
 use Rattle.std.proofs.lemmas.List.{take-set-le, drop-set-lt, drop-take, get_or-set_other, take_at, drop_at, length-take-le, length-take, length-drop, length-append, length-replicate, get_or-replicate, get_or_past, get_or_append_left, get_or-append_right, get_or-drop, get_or-take, ext_get_or, drop-replicate, take-replicate}
+use Rattle.std.proofs.lemmas.List.Elements.{All-replicate}
 use Rattle.sl_model.specs.Pages.{from_bytes, low_bytes, put_bytes}
 use Rattle.sl_model.specs.Stores.{IsElsewhere}
 use Rattle.sl_model.proofs.PagesLaws.{length-low_bytes, All-low_bytes, length-put_bytes, All-put_bytes, put_bytes-between}
@@ -156,3 +157,10 @@ HoldsWords-more words bytes k inside small holds index below = ⊎_elim
     load-elsewhere bytes (4 * k) 4 (get_or words k 0) (4 * index) 4 sides
     ∙ holds index (omega (arith, length-stored bytes (4 * k) 4 (get_or words k 0))) ∙ ap Some (sym (other_word words k index apart)))
     (cases_eq index k)
+
+-- bytes that are all 0 hold no words
+pub HoldsWords-zero : (bytes : List ℕ) → length bytes % 4 ≡ 0 → bytes ≡ replicate (length bytes) 0 → HoldsWords [] bytes
+HoldsWords-zero bytes whole zeros = rw zeros (HoldsWords-zeros (length bytes) whole)
+
+pub All-zero : (bytes : List ℕ) → bytes ≡ replicate (length bytes) 0 → All (λ b. b < 256) bytes
+All-zero bytes zeros = rw zeros (All-replicate (λ b. b < 256) (length bytes) 0 (omega arith))

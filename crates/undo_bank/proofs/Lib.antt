@@ -3,3 +3,4 @@ pub mod LayLaws
 pub mod AreasLaws
 pub mod LogLaws
 pub mod Buses
+pub mod StartLaws

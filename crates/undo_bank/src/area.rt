@@ -32,7 +32,8 @@ impl Model for Area {
 impl Area {
     /// An area of so many bytes, all of them 0.
     pub(crate) fn new(alloc: Global, size: u32) -> Result<Area, Memory>
-        ensures { IfOk result (λ area. area ≡ replicate size 0) }
+        ensures size { IfOk result (λ area. length area ≡ size) }
+        ensures zero { IfOk result (λ area. area ≡ replicate (length area) 0) }
     {
         let bytes = vec![in alloc; 0; size as usize]?;
         Ok(Area { bytes, written: 0 })

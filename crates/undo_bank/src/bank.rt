@@ -56,8 +56,8 @@ impl Bank {
         ensures last { IfOk result (λ bank. bank.last_log_len ≡ 0) }
         ensures kept { IfOk result AreAreas }
     {
-        let pages = (4 * words.len() as u32).div_ceil(PAGE_SIZE);
-        let mut code = Area::new(alloc, pages * PAGE_SIZE)?;
+        let size = (4 * words.len() as u32).next_multiple_of(PAGE_SIZE);
+        let mut code = Area::new(alloc, size)?;
         code.restart(words);
         Ok(Bank {
             code,
