@@ -1,6 +1,6 @@
 //! The bank.
 
-ghost use Rattle.std.specs.Prelude.{◌≡◌, ◌+◌, ◌*◌, ◌<◌, ◌≤◌, ◌∷◌, [], ℕ, ◌^◌, length, nat_lt, if◌then◌else◌, None, IfOk, IfSome, is_some, unwrap_or, ◌≢◌};
+ghost use Rattle.std.specs.Prelude.{◌≡◌, ◌+◌, ◌*◌, ◌<◌, ◌≤◌, ◌∷◌, [], ℕ, ◌^◌, length, nat_lt, true, IfOk, IfSome, is_some, unwrap_or, ◌≢◌};
 ghost use Rattle.std.specs.Bool.{OnTrue, OnFalse};
 ghost use Rattle.sl_model.specs.Pages.{IsWidth, load_at, store_at};
 ghost use Rattle.sl_model.specs.Marks.{MarksGoOn};
@@ -155,9 +155,9 @@ impl Bank {
 
     /// A word of output; `None` exactly where its number is not below 256.
     pub fn out_word(&self, index: u32) -> Option<u32>
-        ensures { result ≡ (if nat_lt index MOST_OUTPUT_WORDS
-            then load_at (bank_pages self.now) (OUTPUT_START + 4 + 4 * index) 4
-            else None) }
+        ensures some { is_some result ≡ nat_lt index MOST_OUTPUT_WORDS }
+        ensures word { IfSome result (λ word.
+            word ≡ word_at (bank_pages self.now) (OUTPUT_START + 4 + 4 * index)) }
     {
         if index >= MOST_OUTPUT_WORDS {
             return None;
