@@ -361,7 +361,8 @@ get-below a base page below =
     ∙ get-lay_elsewhere 0xE0000 (length a.log / 4096) a.log (over_output a base) page (inl (omega arith))
     ∙ get-lay_elsewhere 0xF0000 (length a.output / 4096) a.output base page (inl (omega arith))
 
-bytes-same : (first second : Pages) (address count : ℕ) → ((k : ℕ) → k < count → byte_at first (address + k) ≡ byte_at second (address + k)) → bytes_at first address count ≡ bytes_at second address count
+-- memories with the same bytes give the same ones
+pub bytes-same : (first second : Pages) (address count : ℕ) → ((k : ℕ) → k < count → byte_at first (address + k) ≡ byte_at second (address + k)) → bytes_at first address count ≡ bytes_at second address count
 unfolding bytes_at
 bytes-same first second address zero same = refl
 bytes-same first second address (suc count) same =

@@ -4,3 +4,5 @@ pub mod AreasLaws
 pub mod LogLaws
 pub mod Buses
 pub mod StartLaws
+pub mod BankLaws
+pub mod UndoneLaws

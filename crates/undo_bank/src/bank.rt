@@ -1,6 +1,6 @@
 //! The bank.
 
-ghost use Rattle.std.specs.Prelude.{◌≡◌, ◌+◌, ◌*◌, ◌<◌, ◌≤◌, ◌∷◌, [], ℕ, ◌^◌, length, nat_lt, true, IfOk, IfSome, is_some, unwrap_or, ◌≢◌};
+ghost use Rattle.std.specs.Prelude.{◌≡◌, ◌+◌, ◌*◌, ◌<◌, ◌≤◌, ◌∷◌, [], ℕ, ◌^◌, length, nat_lt, true, false, IfOk, IfSome, is_some, unwrap_or, ◌≢◌};
 ghost use Rattle.std.specs.Bool.{OnTrue, OnFalse};
 ghost use Rattle.sl_model.specs.Pages.{IsWidth, load_at, store_at};
 ghost use Rattle.sl_model.specs.Marks.{MarksGoOn};

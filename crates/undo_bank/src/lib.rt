@@ -5,9 +5,11 @@
 mod area;
 mod bank;
 mod bank_bus;
+mod laws;
 mod regions;
 #[cfg(test)]
 mod tests;
 
 pub use bank::Bank;
 pub use bank_bus::BankBus;
+pub use laws::{started_banks_are_ready, undoing_needs_no_bank};
