@@ -1,21 +1,18 @@
 -- What follows from the definitions of the areas of a bank.
-use Rattle.std.specs.Prelude.{Option, IfSome, IsSome, is_some, unwrap_or, ◌⊎◌}
-use Rattle.std.specs.List.{All}
-use Rattle.std.specs.Ordering.{nat_cmp}
+use Rattle.std.specs.Prelude.{Option, is_some, ◌⊎◌}
 use Rattle.std.specs.Option.{option_and_then, option_map}
-use Rattle.std.specs.FinMap.{get, empty, get-empty}
-use Rattle.std.proofs.Common.{◌≡◌, ℕ, zero, suc, ◌+◌, ◌*◌, ◌-◌, ◌/◌, ◌%◌, ◌^◌, ◌<◌, ◌≤◌, ◌≢◌, List, [], ◌∷◌, length, take, drop, Some, None, true, false, refl, ap, ◌∙◌, sym, subst, arith, inl, inr, ⊎_elim, get_or, slice_get, drop-cons, add-one, add-zero}
-use Rattle.std.proofs.lemmas.Bool.{cases_eq, cases_lt}
+use Rattle.std.specs.FinMap.{get}
+use Rattle.std.proofs.Common.{◌≡◌, ℕ, zero, suc, ◌+◌, ◌-◌, ◌/◌, ◌%◌, ◌^◌, ◌<◌, ◌≤◌, List, [], ◌∷◌, length, take, drop, Some, None, refl, ap, ◌∙◌, sym, arith, inl, inr, ⊎_elim, slice_get, drop-cons, add-one, add-zero}
+use Rattle.std.proofs.lemmas.Bool.{cases_lt}
 use Rattle.std.proofs.lemmas.Option.{slice_get-get_or, slice_get_past}
-use Rattle.sl_model.specs.declared.bank.TheConstants.{CODE_START, MOST_CODE_WORDS, FRAMES_START, FRAMES_SIZE, LOG_START, LOG_SIZE, OUTPUT_START, OUTPUT_SIZE}
-use Rattle.sl_model.specs.declared.layout.TheConstants.{PAGE_SIZE, PROGRAM_PAGES}
-use Rattle.sl_model.specs.Pages.{Pages, ArePages, byte_at, bytes_at, set_bytes, put_bytes, low_bytes, from_bytes, load_at, store_at}
+use Rattle.sl_model.specs.declared.bank.TheConstants.{CODE_START, FRAMES_START, LOG_START, OUTPUT_START}
+use Rattle.sl_model.specs.Pages.{Pages, byte_at, bytes_at, set_bytes, put_bytes, low_bytes, from_bytes, load_at, store_at}
 use Rattle.sl_model.specs.Stores.{IsElsewhere}
 use Rattle.sl_model.proofs.PagesLaws.{AreWhole, byte_at-none, length-low_bytes}
 use Rattle.undo_bank.specs.Dense.{load_in, store_in}
-use Rattle.undo_bank.specs.Areas.{Areas, AreAreas, IsDense, lay, lay_at, areas_over, bank_pages, IsProgram, load_from, store_to}
+use Rattle.undo_bank.specs.Areas.{Areas, AreAreas, lay_at, areas_over, IsProgram, load_from, store_to}
 use Rattle.undo_bank.proofs.DenseLaws.{load_in-within, load_in-past, store_in-within, store_in-past}
-use Rattle.undo_bank.proofs.LayLaws.{AreWhole-lay_at, ArePages-lay_at, get-lay_elsewhere, byte_at-lay_at, byte_at-lay_elsewhere, set_bytes-lay_at, set_bytes-lay_elsewhere}
+use Rattle.undo_bank.proofs.LayLaws.{AreWhole-lay_at, get-lay_elsewhere, byte_at-lay_at, byte_at-lay_elsewhere, set_bytes-lay_at, set_bytes-lay_elsewhere}
 
 -- ---- an area in memory
 

@@ -1,20 +1,19 @@
 -- The memory of a bank over that of a program: what each part of it is, and what a run that keeps
 -- the code leaves.
-use Rattle.std.specs.Prelude.{Option, Bool, IsSome, is_some, unwrap_or, ◌⊎◌, slice_get}
-use Rattle.std.specs.List.{All}
+use Rattle.std.specs.Prelude.{Option, IsSome, is_some, unwrap_or, ◌⊎◌, slice_get}
 use Rattle.std.specs.Ordering.{nat_cmp}
 use Rattle.std.specs.Option.{option_and_then, option_map}
 use Rattle.std.specs.Cmp.{nat_cmp_total}
 use Rattle.std.specs.FinMap.{get, insert, empty, gets, get-empty, same_map, nat_cmp-IsAntisymmetric}
-use Rattle.std.proofs.Common.{◌≡◌, ◌≢◌, ℕ, zero, suc, ◌+◌, ◌*◌, ◌-◌, ◌/◌, ◌%◌, ◌^◌, ◌<◌, ◌≤◌, List, [], ◌∷◌, ◌++◌, length, take, drop, Some, None, refl, ap, ◌∙◌, sym, subst, arith, inl, inr, ⊎_elim}
+use Rattle.std.proofs.Common.{◌≡◌, ◌≢◌, ℕ, zero, suc, ◌+◌, ◌*◌, ◌/◌, ◌%◌, ◌<◌, ◌≤◌, List, [], length, take, drop, Some, None, refl, ap, ◌∙◌, sym, arith, inl, inr, ⊎_elim}
 use Rattle.std.proofs.lemmas.Bool.{cases_eq, cases_lt}
 use Rattle.std.proofs.lemmas.Grind.{common_steps}
-use Rattle.sl_model.specs.declared.bank.TheConstants.{CODE_START, MOST_CODE_WORDS, FRAMES_START, FRAMES_SIZE, LOG_START, LOG_SIZE, OUTPUT_START, OUTPUT_SIZE}
-use Rattle.sl_model.specs.declared.layout.TheConstants.{PAGE_SIZE, PROGRAM_PAGES, MEMORY_END}
-use Rattle.sl_model.specs.Pages.{Pages, ArePages, byte_at, bytes_at, load_at, set_byte, set_bytes}
+use Rattle.sl_model.specs.declared.bank.TheConstants.{CODE_START, FRAMES_START, FRAMES_SIZE, LOG_START, LOG_SIZE, OUTPUT_START, OUTPUT_SIZE}
+use Rattle.sl_model.specs.declared.layout.TheConstants.{PROGRAM_PAGES, MEMORY_END}
+use Rattle.sl_model.specs.Pages.{Pages, ArePages, byte_at, load_at}
 use Rattle.sl_model.specs.State.{State}
 use Rattle.sl_model.specs.Bank.{IsArea, IsWithin, IsBankPage, IsStartedBank, HaveOneProgram, IsBankMemory, copied_words, code_size, words_at, output_count, output_of}
-use Rattle.sl_model.specs.Undo.{word_at, entry_address, entry_at, entries_at, log_count, log_of}
+use Rattle.sl_model.specs.Undo.{word_at, entry_address, entries_at, log_count, log_of}
 use Rattle.undo_bank.specs.Areas.{Areas, AreAreas, lay, lay_at, areas_over, bank_pages, IsProgram, IsMadeFrom, IsStarted}
 use Rattle.undo_bank.proofs.LayLaws.{ArePages-lay_at, get-lay_elsewhere}
 use Rattle.undo_bank.proofs.AreasLaws.{get-below, bytes-same}

@@ -1,19 +1,17 @@
 -- What a bus needs of the areas: what its loads and stores give, in terms of memory.
-use Rattle.std.specs.Prelude.{Option, IsSome, is_some, unwrap_or, Contains}
-use Rattle.std.specs.List.{All}
+use Rattle.std.specs.Prelude.{Option, is_some, unwrap_or, Contains}
 use Rattle.std.specs.Option.{option_map}
 use Rattle.std.specs.Ordering.{nat_cmp}
 use Rattle.std.specs.FinMap.{get, empty, get-empty}
-use Rattle.std.proofs.Common.{◌≡◌, ℕ, ◌+◌, ◌*◌, ◌-◌, ◌/◌, ◌%◌, ◌^◌, ◌<◌, ◌≤◌, List, length, Some, None, Bool, true, false, refl, ap, ◌∙◌, sym, subst, arith, inl, inr, ⊎_elim, ◌++◌, ne_eqb, ◌≢◌, [], append-nil}
+use Rattle.std.proofs.Common.{◌≡◌, ℕ, ◌+◌, ◌/◌, ◌%◌, ◌^◌, ◌<◌, ◌≤◌, List, length, Some, None, Bool, true, false, refl, ap, ◌∙◌, sym, arith, inl, inr, ⊎_elim, ne_eqb, ◌≢◌, [], append-nil}
 use Rattle.std.proofs.lemmas.Bool.{cases_lt}
 use Rattle.sl_model.specs.declared.bank.TheConstants.{CODE_START}
-use Rattle.sl_model.specs.Pages.{Pages, IsWidth, load_at, store_at, put_bytes, low_bytes}
+use Rattle.sl_model.specs.Pages.{Pages, IsWidth, load_at, store_at}
 use Rattle.sl_model.specs.Marks.{MarksGoOn}
-use Rattle.sl_model.proofs.PagesLaws.{AreWhole, load_at-none}
-use Rattle.sl_model.proofs.Memory.{AreWhole-pages, is_some-store_at}
-use Rattle.page_frames.specs.MarkedPages.{MarkedPages, IsKept}
-use Rattle.undo_bank.specs.Dense.{load_in, store_in}
-use Rattle.undo_bank.specs.Areas.{Areas, AreAreas, IsDense, areas_over, bank_pages, IsProgram, load_from, store_to}
+use Rattle.sl_model.proofs.PagesLaws.{load_at-none}
+use Rattle.sl_model.proofs.Memory.{is_some-store_at}
+use Rattle.undo_bank.specs.Dense.{store_in}
+use Rattle.undo_bank.specs.Areas.{Areas, AreAreas, IsDense, areas_over, bank_pages, load_from, store_to}
 use Rattle.undo_bank.proofs.DenseLaws.{store_in-within, store_in-past, length-stored, All-stored}
 use Rattle.undo_bank.proofs.AreasLaws.{load-above, store-above, load-below, store-below, get-below}
 use Rattle.undo_bank.proofs.LogLaws.{IsProgram-empty, AreWhole-empty}

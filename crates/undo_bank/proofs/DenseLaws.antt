@@ -1,14 +1,12 @@
 -- What follows from the definitions of memory of one piece.
-use Rattle.std.specs.Prelude.{Option, IfSome, is_some, unwrap_or, nat_le, ◌⊎◌}
+use Rattle.std.specs.Prelude.{nat_le, ◌⊎◌}
 use Rattle.std.specs.List.{All}
-use Rattle.std.proofs.Common.{◌≡◌, ℕ, zero, suc, ◌+◌, ◌*◌, ◌-◌, ◌%◌, ◌^◌, ◌<◌, ◌≤◌, ◌≢◌, List, [], ◌∷◌, ◌++◌, length, take, drop, replicate, Some, None, Bool, true, false, cond, refl, ap, ◌∙◌, sym, subst, arith, inl, inr, ⊎_elim, get_or, slice_set, slice_get}
-use Rattle.std.proofs.Math.ListN.{length-set}
+use Rattle.std.proofs.Common.{◌≡◌, ℕ, ◌+◌, ◌*◌, ◌-◌, ◌%◌, ◌^◌, ◌<◌, ◌≤◌, ◌≢◌, List, [], ◌∷◌, ◌++◌, length, take, drop, replicate, Some, None, true, false, refl, ap, ◌∙◌, sym, arith, inl, inr, ⊎_elim, get_or, slice_set}
 use Rattle.std.proofs.lemmas.Bool.{cases_lt, cases_eq}
 use Rattle.std.proofs.lemmas.Bool.Decides.{nat_tests}
 use Rattle.std.proofs.lemmas.List.{take-set-le, drop-set-lt, drop-take, get_or-set_other, take_at, drop_at, length-take-le, length-take, length-drop, length-append, length-replicate, get_or-replicate, get_or_past, get_or_append_left, get_or-append_right, get_or-drop, get_or-take, ext_get_or, drop-replicate, take-replicate}
 use Rattle.std.proofs.lemmas.List.Elements.{All-replicate}
 use Rattle.sl_model.specs.Pages.{from_bytes, low_bytes, put_bytes}
-use Rattle.sl_model.specs.Stores.{IsElsewhere}
 use Rattle.sl_model.proofs.PagesLaws.{length-low_bytes, All-low_bytes, length-put_bytes, All-put_bytes, put_bytes-between}
 use Rattle.sl_model.proofs.Memory.{from_bytes-low_bytes}
 use Rattle.undo_bank.specs.Dense.{load_in, store_in, HoldsWords}

@@ -11,7 +11,7 @@ use Rattle.std.proofs.lemmas.Grind.{common_steps}
 use Rattle.std.proofs.lemmas.List.{drop-drop, get_or-take, get_or-drop, ext_get_or, length-take-le, length-drop, get_or-set_same, get_or-set_other}
 use Rattle.std.proofs.lemmas.List.Elements.{All-take, All-drop}
 use Rattle.std.proofs.lemmas.Option.{slice_get-get_or, slice_get_past}
-use Rattle.sl_model.specs.Pages.{Pages, IsPage, ArePages, byte_at, set_byte, set_bytes, put_bytes}
+use Rattle.sl_model.specs.Pages.{Pages, ArePages, byte_at, set_byte, set_bytes, put_bytes}
 use Rattle.sl_model.specs.Stores.{IsElsewhere}
 use Rattle.sl_model.proofs.PagesLaws.{AreWhole}
 use Rattle.sl_model.proofs.WholePages.{AreWhole-insert, AreWhole-set_bytes}

@@ -1,17 +1,16 @@
 -- The log of a bank, as words of its area.
-use Rattle.std.specs.Prelude.{Option, IfSome, IsSome, is_some, unwrap_or, ◌⊎◌}
-use Rattle.std.specs.List.{All}
+use Rattle.std.specs.Prelude.{unwrap_or, ◌⊎◌}
 use Rattle.std.specs.Ordering.{nat_cmp}
 use Rattle.std.specs.FinMap.{get, empty, get-empty}
-use Rattle.std.proofs.Common.{◌≡◌, ℕ, zero, suc, ◌+◌, ◌*◌, ◌-◌, ◌/◌, ◌%◌, ◌^◌, ◌<◌, ◌≤◌, ◌≢◌, List, [], ◌∷◌, length, Some, None, true, false, refl, ap, ◌∙◌, sym, subst, arith, inl, inr, ⊎_elim, add-one, ne_eqb}
-use Rattle.std.proofs.lemmas.Bool.{cases_eq, cases_lt}
-use Rattle.sl_model.specs.declared.bank.TheConstants.{CODE_START, LOG_START, OUTPUT_START, MOST_ENTRIES, LOG_SIZE}
-use Rattle.sl_model.specs.Pages.{Pages, IsWidth, load_at, store_at}
+use Rattle.std.proofs.Common.{◌≡◌, ℕ, zero, suc, ◌+◌, ◌*◌, ◌%◌, ◌^◌, ◌<◌, ◌≤◌, ◌≢◌, List, [], ◌∷◌, length, None, true, false, refl, ap, ◌∙◌, sym, arith, inl, inr, ⊎_elim, add-one, ne_eqb}
+use Rattle.std.proofs.lemmas.Bool.{cases_lt}
+use Rattle.sl_model.specs.declared.bank.TheConstants.{LOG_START, OUTPUT_START, MOST_ENTRIES, LOG_SIZE}
+use Rattle.sl_model.specs.Pages.{Pages, IsWidth, store_at}
 use Rattle.sl_model.specs.Bank.{output_count}
 use Rattle.sl_model.specs.Undo.{UndoEntry, is_width, put_back, undone, word_at, entry_address, entry_at, entries_at, log_count, log_of}
 use Rattle.sl_model.proofs.PagesLaws.{AreWhole}
-use Rattle.undo_bank.specs.Dense.{load_in, store_in, word_in}
-use Rattle.undo_bank.specs.Areas.{Areas, AreAreas, IsDense, areas_over, bank_pages, IsProgram}
+use Rattle.undo_bank.specs.Dense.{store_in, word_in}
+use Rattle.undo_bank.specs.Areas.{Areas, AreAreas, IsDense, areas_over, IsProgram}
 use Rattle.undo_bank.proofs.DenseLaws.{stored_in, store_in-within, length-stored, All-stored, load-stored, load-elsewhere}
 use Rattle.undo_bank.proofs.AreasLaws.{load-laid, log-laid, output-laid}
 

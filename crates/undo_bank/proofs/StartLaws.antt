@@ -1,13 +1,12 @@
 -- Areas that hold words, in memory; and what a bank is made from and starts with.
-use Rattle.std.specs.Prelude.{IsSome, slice_index_or}
 use Rattle.std.specs.List.{All}
-use Rattle.std.specs.FinMap.{get, empty}
-use Rattle.std.proofs.Common.{◌≡◌, ℕ, ◌+◌, ◌*◌, ◌-◌, ◌/◌, ◌%◌, ◌^◌, ◌<◌, ◌≤◌, List, [], length, replicate, Some, refl, ap, ◌∙◌, sym, arith}
+use Rattle.std.specs.FinMap.{empty}
+use Rattle.std.proofs.Common.{◌≡◌, ℕ, ◌+◌, ◌*◌, ◌%◌, ◌<◌, ◌≤◌, List, [], length, replicate, refl, ap, ◌∙◌, sym, arith}
 use Rattle.sl_model.specs.declared.bank.TheConstants.{CODE_START, FRAMES_START, FRAMES_SIZE, LOG_START, LOG_SIZE, OUTPUT_START, OUTPUT_SIZE, MOST_CODE_WORDS}
-use Rattle.sl_model.specs.Pages.{Pages, load_at}
+use Rattle.sl_model.specs.Pages.{Pages}
 use Rattle.sl_model.specs.Bank.{IsArea, code_size}
-use Rattle.undo_bank.specs.Dense.{load_in, HoldsWords}
-use Rattle.undo_bank.specs.Areas.{Areas, AreAreas, IsDense, areas_over, bank_pages, IsProgram, IsMadeFrom, IsStarted}
+use Rattle.undo_bank.specs.Dense.{HoldsWords}
+use Rattle.undo_bank.specs.Areas.{Areas, AreAreas, IsDense, bank_pages, IsMadeFrom, IsStarted}
 use Rattle.undo_bank.proofs.DenseLaws.{All-zero}
 use Rattle.undo_bank.proofs.AreasLaws.{IsLaid, load-laid, code-laid, frames-laid, log-laid, output-laid}
 use Rattle.undo_bank.proofs.LogLaws.{IsProgram-empty}

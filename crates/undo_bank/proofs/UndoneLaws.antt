@@ -1,12 +1,11 @@
 -- The log put back over a bank and a program: the program's memory is what it is alone.
-use Rattle.std.specs.Prelude.{Option, Bool, IsSome, is_some, unwrap_or, ◌⊎◌, slice_get, slice_set, if◌then◌else◌}
+use Rattle.std.specs.Prelude.{Option, Bool, is_some, unwrap_or, ◌⊎◌, slice_get, slice_set}
 use Rattle.std.specs.Option.{option_and_then, option_map}
-use Rattle.std.specs.FinMap.{get, insert, empty, gets}
-use Rattle.std.proofs.Common.{◌≡◌, ◌≢◌, ℕ, zero, suc, ◌+◌, ◌*◌, ◌-◌, ◌/◌, ◌%◌, ◌^◌, ◌<◌, ◌≤◌, List, [], ◌∷◌, length, Some, None, true, false, refl, ap, ◌∙◌, sym, subst, arith, inl, inr, ⊎_elim, ne_eqb}
+use Rattle.std.specs.FinMap.{get, insert, gets}
+use Rattle.std.proofs.Common.{◌≡◌, ◌≢◌, ℕ, zero, suc, ◌+◌, ◌-◌, ◌/◌, ◌%◌, ◌<◌, ◌≤◌, List, [], ◌∷◌, length, Some, None, true, false, refl, ap, ◌∙◌, sym, subst, arith, inl, inr, ⊎_elim, ne_eqb}
 use Rattle.std.proofs.lemmas.Bool.{cases_eq, cases_lt}
 use Rattle.std.proofs.lemmas.Grind.{common_steps}
-use Rattle.sl_model.specs.declared.bank.TheConstants.{CODE_START}
-use Rattle.sl_model.specs.declared.layout.TheConstants.{PAGE_SIZE, PROGRAM_PAGES, MEMORY_END}
+use Rattle.sl_model.specs.declared.layout.TheConstants.{PROGRAM_PAGES, MEMORY_END}
 use Rattle.sl_model.specs.Pages.{Pages, byte_at, bytes_at, set_byte, set_bytes, store_at, low_bytes}
 use Rattle.sl_model.specs.Bank.{HaveOneProgram}
 use Rattle.sl_model.specs.Undo.{UndoEntry, is_width, put_back, undone}

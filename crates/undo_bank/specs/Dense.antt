@@ -1,5 +1,5 @@
 -- Memory of one piece: the bytes of an area, by their indexes.
-use Rattle.std.specs.Prelude.{◌≡◌, ℕ, ◌+◌, ◌*◌, ◌<◌, ◌≤◌, List, length, take, drop, Option, Some, None, nat_le, if◌then◌else◌, slice_index_or, unwrap_or}
+use Rattle.std.specs.Prelude.{◌≡◌, ℕ, ◌+◌, ◌*◌, ◌<◌, List, length, take, drop, Option, Some, None, nat_le, if◌then◌else◌, slice_index_or, unwrap_or}
 use Rattle.sl_model.specs.Pages.{from_bytes, low_bytes, put_bytes}
 
 -- the number in so many bytes from an index on, or None where there are not so many

@@ -1,4 +1,4 @@
-use Rattle.std.proofs.Common.{◌≡◌, ◌≤◌, ◌++◌, ℕ, List, replicate, length, drop, take, refl, ap, ◌∙◌, sym, arith, get_or, length-append}
+use Rattle.std.proofs.Common.{◌≡◌, ◌≤◌, ◌++◌, ℕ, List, replicate, length, drop, take, ap, ◌∙◌, sym, arith, get_or}
 use Rattle.std.proofs.lemmas.List.{take_at, length-replicate}
 use Rattle.undo_bank.proofs.DenseLaws.{get_or-zeros, zeros-cleared}
 use Rattle.undo_bank.proofs.area.Area.clear.Goals as goal

@@ -1,9 +1,8 @@
-use Rattle.std.proofs.Common.{◌≡◌, ◌+◌, ◌*◌, ◌≤◌, ◌<◌, ◌^◌, ℕ, List, replicate, length, take, drop, refl, ap, ◌∙◌, sym, arith, get_or}
+use Rattle.std.proofs.Common.{◌≡◌, ◌+◌, ◌*◌, ◌≤◌, ◌<◌, ℕ, List, length, refl, ap, ◌∙◌, arith, get_or}
 use Rattle.std.specs.Prelude.{unwrap_or}
-use Rattle.std.specs.List.{All}
-use Rattle.std.proofs.lemmas.List.{length-replicate, take_all}
+use Rattle.std.proofs.lemmas.List.{length-replicate}
 use Rattle.std.proofs.lemmas.List.Elements.{All-replicate}
-use Rattle.undo_bank.specs.Dense.{HoldsWords, store_in}
+use Rattle.undo_bank.specs.Dense.{store_in}
 use Rattle.undo_bank.proofs.DenseLaws.{HoldsWords-zeros, HoldsWords-more, store_in-within, stored_in, length-stored, All-stored}
 use Rattle.undo_bank.proofs.area.Area.restart.Goals as goal
 

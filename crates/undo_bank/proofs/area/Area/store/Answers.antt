@@ -1,9 +1,8 @@
-use Rattle.std.proofs.Common.{◌≡◌, ◌+◌, ◌-◌, ◌<◌, ◌≤◌, take, drop, length, Some, None, sym, ap, ◌∙◌, arith, refl, ℕ, List, ◌++◌, get_or}
+use Rattle.std.proofs.Common.{◌≡◌, ◌+◌, ◌<◌, ◌≤◌, take, drop, length, sym, ap, ◌∙◌, arith, ℕ, List, ◌++◌, get_or}
 use Rattle.std.specs.Prelude.{is_some, unwrap_or}
 use Rattle.std.proofs.lemmas.List.{take_at}
 use Rattle.sl_model.specs.Pages.{low_bytes, put_bytes}
 use Rattle.sl_model.proofs.PagesLaws.{length-low_bytes, length-put_bytes}
-use Rattle.undo_bank.specs.Dense.{store_in}
 use Rattle.undo_bank.proofs.DenseLaws.{store_in-within, store_in-past, get_or-put}
 use Rattle.undo_bank.proofs.area.Area.store.Goals as goal
 

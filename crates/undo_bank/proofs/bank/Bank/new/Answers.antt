@@ -1,6 +1,6 @@
-use Rattle.std.proofs.Common.{◌≡◌, ◌+◌, ◌*◌, ◌-◌, ◌/◌, ◌%◌, ◌<◌, ◌≤◌, ℕ, List, [], length, refl, ap, ◌∙◌, sym, arith}
+use Rattle.std.proofs.Common.{◌≡◌, ◌%◌, [], length, ap, ◌∙◌, arith}
 use Rattle.sl_model.specs.Bank.{code_size}
-use Rattle.undo_bank.specs.Areas.{Areas, AreAreas}
+use Rattle.undo_bank.specs.Areas.{AreAreas}
 use Rattle.undo_bank.proofs.StartLaws.{IsStarted-held, IsMadeFrom-held, AreAreas-made, code_size-multiple}
 use Rattle.undo_bank.proofs.DenseLaws.{HoldsWords-zero}
 use Rattle.undo_bank.proofs.bank.Bank.new.Goals as goal

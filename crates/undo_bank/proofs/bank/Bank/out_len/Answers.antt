@@ -1,5 +1,5 @@
 use Rattle.std.specs.FinMap.{empty}
-use Rattle.std.proofs.Common.{◌≡◌, ap, ◌∙◌, sym}
+use Rattle.std.proofs.Common.{ap, ◌∙◌, sym}
 use Rattle.sl_model.specs.Bank.{output_count}
 use Rattle.undo_bank.specs.Areas.{bank_pages, Areas}
 use Rattle.undo_bank.proofs.LogLaws.{output_count-areas, IsProgram-empty}

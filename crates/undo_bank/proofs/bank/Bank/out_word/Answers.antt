@@ -1,10 +1,9 @@
 use Rattle.std.specs.FinMap.{empty}
 use Rattle.std.specs.Prelude.{Option, IfSome, is_some, unwrap_or, nat_lt}
-use Rattle.std.proofs.Common.{◌≡◌, ◌+◌, ◌*◌, ◌<◌, ◌≤◌, ℕ, length, Some, None, true, refl, ap, ◌∙◌, sym, arith}
+use Rattle.std.proofs.Common.{◌≡◌, ◌+◌, ◌*◌, ◌<◌, ℕ, Some, None, true, ap, ◌∙◌, sym, arith}
 use Rattle.std.proofs.lemmas.Bool.Decides.{nat_tests}
 use Rattle.sl_model.specs.declared.bank.TheConstants.{OUTPUT_START}
 use Rattle.sl_model.specs.Undo.{word_at}
-use Rattle.undo_bank.specs.Dense.{load_in, word_in}
 use Rattle.undo_bank.specs.Areas.{Areas, bank_pages}
 use Rattle.undo_bank.specs.Fields.{areas_of}
 use Rattle.undo_bank.proofs.DenseLaws.{load_in-within}

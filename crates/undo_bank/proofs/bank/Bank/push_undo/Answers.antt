@@ -1,6 +1,6 @@
 use Rattle.std.specs.Prelude.{unwrap_or}
 use Rattle.std.specs.FinMap.{empty}
-use Rattle.std.proofs.Common.{◌≡◌, ◌≢◌, ◌+◌, ◌*◌, ◌<◌, ◌≤◌, ◌∷◌, ℕ, List, length, refl, ap, ◌∙◌, sym, subst, arith}
+use Rattle.std.proofs.Common.{◌≡◌, ◌+◌, ◌*◌, ◌<◌, ◌∷◌, ℕ, ap, ◌∙◌, sym, subst, arith}
 use Rattle.sl_model.specs.declared.bank.TheConstants.{MOST_ENTRIES}
 use Rattle.sl_model.specs.Undo.{UndoEntry, log_count, log_of, entry_at}
 use Rattle.undo_bank.specs.Dense.{store_in}

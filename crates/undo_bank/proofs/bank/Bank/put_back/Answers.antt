@@ -2,7 +2,7 @@ use Rattle.std.specs.FinMap.{empty}
 use Rattle.std.proofs.Common.{◌≡◌, ◌+◌, ◌*◌, ◌<◌, ℕ, inl, inr, ap, ◌∙◌, sym, arith}
 use Rattle.sl_model.specs.declared.bank.TheConstants.{MOST_ENTRIES}
 use Rattle.sl_model.specs.Pages.{IsWidth}
-use Rattle.sl_model.specs.Undo.{UndoEntry, entry_at}
+use Rattle.sl_model.specs.Undo.{entry_at}
 use Rattle.undo_bank.specs.Dense.{word_in}
 use Rattle.undo_bank.specs.Areas.{Areas, AreAreas, bank_pages}
 use Rattle.undo_bank.specs.Fields.{areas_of}

@@ -1,4 +1,4 @@
-use Rattle.std.proofs.Common.{◌≡◌, refl, ◌∙◌}
+use Rattle.std.proofs.Common.{refl, ◌∙◌}
 use Rattle.undo_bank.specs.Areas.{Areas, AreAreas}
 use Rattle.undo_bank.proofs.StartLaws.{IsStarted-held, IsDense-sized}
 use Rattle.undo_bank.proofs.bank.Bank.start.Goals as goal

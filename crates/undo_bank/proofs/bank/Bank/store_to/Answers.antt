@@ -1,7 +1,6 @@
-use Rattle.std.proofs.Common.{◌≡◌, ◌/◌, ◌%◌, ◌≢◌, length, ap, ◌∙◌, sym, arith}
+use Rattle.std.proofs.Common.{◌%◌, length, ap, ◌∙◌, sym, arith}
 use Rattle.std.specs.Prelude.{is_some, unwrap_or}
-use Rattle.undo_bank.specs.Dense.{store_in}
-use Rattle.undo_bank.specs.Areas.{Areas, AreAreas, IsDense, store_to}
+use Rattle.undo_bank.specs.Areas.{Areas, store_to}
 use Rattle.undo_bank.specs.Fields.{areas_of}
 use Rattle.undo_bank.proofs.Buses.{IsDense-stored, length-store_in, AreAreas-code, AreAreas-frames, AreAreas-log, AreAreas-output, stores-code, stores-frames, stores-log, stores-output, no_store}
 use Rattle.undo_bank.proofs.bank.Bank.store_to.Goals as goal

@@ -1,8 +1,8 @@
 use Rattle.std.specs.Prelude.{unwrap_or}
 use Rattle.std.specs.FinMap.{empty}
-use Rattle.std.proofs.Common.{◌≡◌, ◌+◌, ◌-◌, ◌≤◌, ◌<◌, ℕ, suc, List, length, true, refl, ap, ◌∙◌, sym, arith}
+use Rattle.std.proofs.Common.{◌≡◌, ◌-◌, ℕ, suc, List, true, refl, ap, ◌∙◌, sym, arith}
 use Rattle.sl_model.specs.Pages.{Pages}
-use Rattle.sl_model.specs.Undo.{put_back, undone, entry_at, entries_at, log_of}
+use Rattle.sl_model.specs.Undo.{undone, entries_at, log_of}
 use Rattle.sl_model.proofs.MarksLaws.{MarksGoOn-then, MarksGoOn-same}
 use Rattle.undo_bank.specs.Dense.{store_in}
 use Rattle.undo_bank.specs.Areas.{Areas, AreAreas, areas_over, bank_pages}

@@ -1,4 +1,4 @@
-use Rattle.std.proofs.Common.{◌≡◌, ap, ◌∙◌, sym, arith}
+use Rattle.std.proofs.Common.{◌∙◌, sym, arith}
 use Rattle.undo_bank.proofs.Buses.{load-bank}
 use Rattle.undo_bank.proofs.bank.BankBus.load.Goals as goal
 

@@ -1,6 +1,6 @@
 use Rattle.std.specs.Prelude.{is_some, unwrap_or}
-use Rattle.std.proofs.Common.{◌≡◌, ap, ◌∙◌, sym, arith}
-use Rattle.undo_bank.specs.Areas.{Areas, bank_pages, store_to}
+use Rattle.std.proofs.Common.{ap, ◌∙◌, sym, arith}
+use Rattle.undo_bank.specs.Areas.{bank_pages, store_to}
 use Rattle.undo_bank.proofs.Buses.{store-bank, is_some-map, unwrap_or-map}
 use Rattle.undo_bank.proofs.bank.BankBus.store.Goals as goal
 

@@ -1,4 +1,4 @@
-use Rattle.std.proofs.Common.{◌≡◌, ap, ◌∙◌, sym, arith}
+use Rattle.std.proofs.Common.{◌∙◌, sym, arith}
 use Rattle.undo_bank.proofs.AreasLaws.{load-above, load-below}
 use Rattle.undo_bank.proofs.Buses.{width_some, width_few}
 use Rattle.undo_bank.proofs.bank_bus.BankBusBus.load.Goals as goal

@@ -1,8 +1,8 @@
-use Rattle.std.specs.Prelude.{is_some, unwrap_or, Option}
+use Rattle.std.specs.Prelude.{is_some, unwrap_or}
 use Rattle.std.specs.Option.{option_map}
 use Rattle.std.proofs.Common.{◌≡◌, ℕ, ◌<◌, ◌≤◌, ◌^◌, ap, ◌∙◌, sym, arith}
 use Rattle.sl_model.specs.declared.bank.TheConstants.{CODE_START}
-use Rattle.sl_model.specs.Pages.{Pages, IsWidth, store_at}
+use Rattle.sl_model.specs.Pages.{IsWidth, store_at}
 use Rattle.sl_model.proofs.Memory.{AreWhole-pages}
 use Rattle.page_frames.specs.MarkedPages.{MarkedPages, IsKept}
 use Rattle.undo_bank.specs.Areas.{Areas, AreAreas, areas_over, store_to}
