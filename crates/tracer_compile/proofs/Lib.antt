@@ -1,0 +1,7 @@
+mod Emitting
+mod Lengths
+mod Fitting
+mod Parts
+mod Remaining
+mod Spelling
+mod ScriptParts
