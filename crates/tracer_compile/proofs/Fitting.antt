@@ -78,7 +78,7 @@ length-end_code = refl
 -- end, functions and tracers, whatever the addresses are
 pub parts_fit : (script : ScriptTree) (addresses : List ℕ) → IsWithinLimits script
     → 3 + (length (joined (function_codes script addresses))
-    + length (joined (tracepoint_codes script addresses))) ≤ 2 ^ 18
+    + length (joined (tracepoint_codes script addresses))) < 2 ^ 18
 parts_fit script addresses limits =
     let of_function : FunctionTree → ℕ = λ f. 1 + statements_nodes f.body in
     let of_tracepoint : TracepointTree → ℕ = λ t. 1 + statements_nodes t.body in
@@ -103,7 +103,7 @@ length-functions_part script addresses =
 
 -- the whole code is within reach of jumps
 pub script_fits : (script : ScriptTree) → IsWithinLimits script
-    → length (script_code script) ≤ 2 ^ 18
+    → length (script_code script) < 2 ^ 18
 unfolding script_code
 script_fits script limits =
     let addresses : List ℕ = addresses_of script in

@@ -5,3 +5,4 @@ mod Parts
 mod Remaining
 mod Spelling
 mod ScriptParts
+mod Placement
