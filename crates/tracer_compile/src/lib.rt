@@ -7,5 +7,7 @@ mod compiling;
 mod instructions;
 mod roles;
 mod scope;
+#[cfg(test)]
+mod tests;
 
 pub use compiling::compile;
