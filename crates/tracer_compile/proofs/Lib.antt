@@ -6,3 +6,9 @@ mod Remaining
 mod Spelling
 mod ScriptParts
 mod Placement
+mod Relation
+mod Standing
+mod Running
+mod Values
+mod Temporaries
+mod Operators

@@ -1,15 +1,14 @@
 -- Where the functions and the tracers of a script stand in its code.
-use Rattle.std.proofs.Common.{◌≡◌, ℕ, zero, suc, ◌+◌, ◌-◌, ◌*◌, ◌^◌, ◌<◌, ◌≤◌, List, [], ◌∷◌, ◌++◌, length, map, replicate, get_or, refl, sym, ap, ◌∙◌, subst, arith, length-append}
+use Rattle.std.proofs.Common.{◌≡◌, ℕ, zero, suc, ◌+◌, ◌-◌, ◌<◌, List, [], ◌∷◌, ◌++◌, length, map, replicate, get_or, refl, sym, ap, ◌∙◌, subst, arith, length-append}
 use Rattle.std.specs.Prelude.{slice_index, slice_index_or}
 use Rattle.std.proofs.lemmas.List.{get_or-map, length-map}
 use Rattle.std.proofs.lemmas.Option.{slice_get_within}
 use Rattle.sl_model.specs.declared.instr.Instr.{Instr}
-use Rattle.tracer_lang.specs.Limits.{IsWithinLimits}
 use Rattle.tracer_lang.specs.Meaning.{no_function, no_tracepoint}
 use Rattle.tracer_lang.specs.Tree.{Expression, number, local, register, program_counter, load, operation, is_zero, call, system_call, Arguments, no_arguments, argument, Statement, emit, set, block, choice, while, store, return, stop, run, Statements, no_statements, statement, FunctionTree, TracepointTree, ScriptTree}
 use Rattle.word_blocks.specs.Code.{HasBlock}
 use Rattle.word_blocks.proofs.CodeLaws.{HasBlock-parts, HasBlock-whole}
-use Rattle.tracer_compile.specs.Blocks.{constant, depth_block, unit_block, zeros, enter_block, opening_block}
+use Rattle.tracer_compile.specs.Blocks.{constant, depth_block, unit_block, zeros, opening_block}
 use Rattle.tracer_compile.specs.Code.{Scope, callee, call_block, expression_code, arguments_code, choice_code, while_code, statement_code, statements_code, body_code, function_code, tracepoint_code}
 use Rattle.tracer_compile.specs.Script.{joined, places_from, address_of, end_code, function_codes, tracepoint_codes, addresses_of, functions_part, script_code, places_of}
 use Rattle.tracer_compile.proofs.Lengths.{length-enter, length-choice, length-while}
