@@ -12,3 +12,11 @@ mod Running
 mod Values
 mod Temporaries
 mod Operators
+mod Ends
+mod Locals
+mod Choices
+mod Units
+mod Loops
+mod Returns
+mod Emitted
+mod WholeBodies
