@@ -20,3 +20,7 @@ mod Loops
 mod Returns
 mod Emitted
 mod WholeBodies
+mod Loads
+mod Storing
+mod SystemCalls
+mod Opening
