@@ -24,3 +24,5 @@ mod Loads
 mod Storing
 mod SystemCalls
 mod Opening
+mod Nodes
+mod Calls
