@@ -26,3 +26,4 @@ mod SystemCalls
 mod Opening
 mod Nodes
 mod Calls
+mod Theorem

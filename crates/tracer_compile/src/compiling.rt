@@ -3,6 +3,7 @@
 
 ghost use Rattle.std.specs.Prelude.{◌≡◌, ◌+◌, ◌*◌, ◌≤◌, ◌^◌, ◌++◌, length, map, IfOk, OnOk};
 ghost use Rattle.tracer_lang.specs.Script.{tree_of};
+ghost use Rattle.tracer_code.specs.Sound.{StandsFor};
 ghost use Rattle.word_blocks.specs.Code.{Spells};
 ghost use Rattle.tracer_compile.specs.Script.{address_of, joined, places_from, function_codes, tracepoint_codes, addresses_of, script_code, places_of};
 
@@ -112,12 +113,10 @@ fn instructions(alloc: Global, script: &Script) -> Result<(Vec<Instr>, Vec<u32>)
     Ok((code, places))
 }
 
-/// The code of a script's tracers.
-///
-/// # Errors
-///
-/// Want of memory.
-pub fn compile(alloc: Global, script: &Script) -> Result<TracerCode, Memory>
+/// The words of the code of a script's tracers, with the place of each tracer and the bound of
+/// instructions for one run: each word is run at most once for each unit of the budget, and once
+/// more.
+fn spelled(alloc: Global, script: &Script) -> Result<TracerCode, Memory>
     ensures words { IfOk result (λ code. Spells code.words (script_code (tree_of script.now))) }
     ensures places { IfOk result (λ code. code.places ≡ places_of (tree_of script.now)) }
     ensures most { IfOk result (λ code.
@@ -131,4 +130,18 @@ pub fn compile(alloc: Global, script: &Script) -> Result<TracerCode, Memory>
         places: Seq::from_vec(places),
         most,
     })
+}
+
+/// Compiles a script. The code stands for it: wherever a tracepoint fires, the run of its words
+/// beside the program ends within the code's bound, leaves the words, the outcome and the number
+/// of stores that the tracer means on a copy of the machine, and lets the program's memory be had
+/// back from the log at every step.
+///
+/// # Errors
+///
+/// Want of memory.
+pub fn compile(alloc: Global, script: &Script) -> Result<TracerCode, Memory>
+    ensures { IfOk result (λ code. StandsFor code (tree_of script.now)) }
+{
+    spelled(alloc, script)
 }
