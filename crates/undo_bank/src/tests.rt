@@ -22,65 +22,77 @@ fn one_page(alloc: Global) -> Result<Frames, Memory> {
     Ok(frames)
 }
 
-/// Stores a value over a bank and a program's memory, and loads what stands there then: `None`
-/// where a byte is not mapped.
-fn store_and_load(
-    rt: &impl Abort,
-    memory: &mut BankBus,
-    addr: u32,
-    width: u8,
-    value: u32,
-    loaded: Option<u32>,
-)
+/// Stores ones at each address of a table, over a bank and a program's memory, and loads what
+/// stands there then, where the table says that all bytes are mapped.
+fn store_and_load(rt: &impl Abort, memory: &mut BankBus, width: u8, table: &[(u32, bool)])
     requires { IsWidth width }
 {
-    let stored = memory.store(addr, width, value);
-    assert_eq!(rt; stored, loaded.is_some());
-    assert_eq!(rt; memory.load(addr, width), loaded);
+    let ones = match width {
+        1 => 0xff,
+        2 => 0xffff,
+        _ => 0xffff_ffff,
+    };
+    for (addr, is_mapped) in table {
+        assert_eq!(rt; memory.store(*addr, width, 0xffff_ffff), *is_mapped);
+        let loaded = if *is_mapped { Some(ones) } else { None };
+        assert_eq!(rt; memory.load(*addr, width), loaded);
+    }
 }
+
+/// The first and the last bytes of each area and of the page, and bytes beyond them.
+const BYTES: [(u32, bool); 14] = [
+    (0x0001_0fff, true),
+    (0x0001_1000, false),
+    (0xbfff_f000, false),
+    (0xc000_0000, true),
+    (0xc000_0fff, true),
+    (0xc000_1000, false),
+    (0xd000_0000, true),
+    (0xd003_ffff, true),
+    (0xd004_0000, false),
+    (0xe000_cfff, true),
+    (0xe000_d000, false),
+    (0xf000_0fff, true),
+    (0xf000_1000, false),
+    (0xffff_ffff, false),
+];
+
+/// The same with two bytes, some of them across an end.
+const HALVES: [(u32, bool); 6] = [
+    (0xbfff_ffff, false),
+    (0xc000_0ffe, true),
+    (0xc000_0fff, false),
+    (0xdfff_ffff, false),
+    (0xe000_0001, true),
+    (0xffff_ffff, false),
+];
+
+/// And with four.
+const QUADS: [(u32, bool); 8] = [
+    (0x0001_0ffd, false),
+    (0xbfff_fffe, false),
+    (0xcfff_fffe, false),
+    (0xd003_fffc, true),
+    (0xd003_fffd, false),
+    (0xe000_cffd, false),
+    (0xf000_0ffc, true),
+    (0xffff_fffd, false),
+];
 
 #[test]
 fn areas_begin_and_end(rt: HostRuntime) -> Result<(), Fail> {
     let mut bank = Bank::new(rt.alloc(), &[0x73])?;
     let mut frames = one_page(rt.alloc())?;
+    assert_eq!(rt; bank.load(0xc000_0000, 4), Some(0x73));
     let memory = &mut BankBus {
         bank: &mut bank,
         frames: &mut frames,
     };
-    assert_eq!(rt; memory.load(0xc000_0000, 4), Some(0x73));
-
-    // the code, of one page
-    store_and_load(&rt, memory, 0xc000_0000, 1, 0x1ff, Some(0xff));
-    store_and_load(&rt, memory, 0xc000_0fff, 1, 7, Some(7));
-    store_and_load(&rt, memory, 0xc000_0fff, 2, 7, None);
-    store_and_load(&rt, memory, 0xc000_1000, 1, 7, None);
-    // the frames
-    store_and_load(&rt, memory, 0xcfff_fffe, 4, 7, None);
-    store_and_load(&rt, memory, 0xd000_0000, 4, 0x1234_5678, Some(0x1234_5678));
-    store_and_load(&rt, memory, 0xd003_fffe, 2, 0xf_beef, Some(0xbeef));
-    store_and_load(&rt, memory, 0xd003_ffff, 2, 7, None);
-    store_and_load(&rt, memory, 0xd004_0000, 1, 7, None);
-    // the log
-    store_and_load(&rt, memory, 0xdfff_ffff, 2, 7, None);
-    store_and_load(&rt, memory, 0xe000_0000, 1, 3, Some(3));
-    store_and_load(&rt, memory, 0xe000_cfff, 1, 9, Some(9));
-    store_and_load(&rt, memory, 0xe000_cffd, 4, 7, None);
-    store_and_load(&rt, memory, 0xe000_d000, 4, 7, None);
-    // the output
-    store_and_load(&rt, memory, 0xefff_fffe, 4, 7, None);
-    store_and_load(&rt, memory, 0xf000_0001, 2, 0x0a0b, Some(0x0a0b));
-    store_and_load(&rt, memory, 0xf000_0ffc, 4, 0xffff_ffff, Some(0xffff_ffff));
-    store_and_load(&rt, memory, 0xf000_0fff, 4, 7, None);
-    store_and_load(&rt, memory, 0xf000_1000, 1, 7, None);
-    store_and_load(&rt, memory, 0xffff_ffff, 1, 7, None);
-    store_and_load(&rt, memory, 0xffff_ffff, 4, 7, None);
-    // the program, and what lies between
-    store_and_load(&rt, memory, 0x0001_0ffc, 4, 5, Some(5));
-    store_and_load(&rt, memory, 0x0001_0ffd, 4, 7, None);
-    store_and_load(&rt, memory, 0xbfff_f000, 1, 7, None);
-    store_and_load(&rt, memory, 0xbfff_ffff, 2, 7, None);
+    store_and_load(&rt, memory, 1, &BYTES);
+    store_and_load(&rt, memory, 2, &HALVES);
+    store_and_load(&rt, memory, 4, &QUADS);
     assert_eq!(rt; frames.dirty_len(), 1);
-    assert_eq!(rt; bank.load(0x0001_0ffc, 4), None);
+    assert_eq!(rt; bank.load(0x0001_0fff, 1), None);
     Ok(())
 }
 
@@ -119,33 +131,40 @@ fn puts_back_newest_first(rt: HostRuntime) -> Result<(), Fail> {
     Ok(())
 }
 
-/// Writes the words of an entry of any width into the log.
-fn write_entry(bank: &mut Bank, place: u32, addr: u32, width: u32, old: u32)
-    requires { place < 4096 }
-{
-    let _ = bank.store(0xe000_0004 + 12 * place, 4, addr);
-    let _ = bank.store(0xe000_0008 + 12 * place, 4, width);
-    let _ = bank.store(0xe000_000c + 12 * place, 4, old);
-    let _ = bank.store(0xe000_0000, 4, place + 1);
+/// Writes entries of any width into the log.
+fn write_log(rt: &impl Abort, bank: &mut Bank, entries: &[(u32, u32)]) {
+    let mut place = 0xe000_0004;
+    for (addr, width) in entries {
+        assert!(rt; place < 0xe000_c000);
+        let _ = bank.store(place, 4, *addr);
+        let _ = bank.store(place + 4, 4, *width);
+        let _ = bank.store(place + 8, 4, 0xffff_ffff);
+        place += 12;
+    }
+    let _ = bank.store(0xe000_0000, 4, (place - 0xe000_0004) / 12);
 }
+
+/// Entries by address and width: of a width that is none, with bytes that are not mapped, and of
+/// bytes of the bank.
+const NO_ENTRIES: [(u32, u32); 7] = [
+    (0x10000, 3),
+    (0x10000, 0),
+    (0x10000, 0x0100_0001),
+    (0x10ffe, 4),
+    (0x20000, 1),
+    (0xc000_0000, 4),
+    (0xffff_fffe, 4),
+];
 
 #[test]
 fn leaves_what_is_no_entry_of_the_program(rt: HostRuntime) -> Result<(), Fail> {
     let mut bank = Bank::new(rt.alloc(), &[0x73])?;
     let mut frames = one_page(rt.alloc())?;
-    write_entry(&mut bank, 0, 0x10000, 3, 7);
-    write_entry(&mut bank, 1, 0x10000, 0, 7);
-    write_entry(&mut bank, 2, 0x10000, 0x0100_0001, 7);
-    write_entry(&mut bank, 3, 0x10ffe, 4, 7);
-    write_entry(&mut bank, 4, 0x20000, 1, 7);
-    write_entry(&mut bank, 5, 0xc000_0000, 4, 7);
-    write_entry(&mut bank, 6, 0xffff_fffe, 4, 7);
+    write_log(&rt, &mut bank, &NO_ENTRIES);
     assert_eq!(rt; bank.log_len(), 7);
     undo(&rt, &mut bank, &mut frames);
-    assert_eq!(rt; bank.last_log_len(), 7);
-    assert_eq!(rt; frames.dirty_len(), 0);
+    assert_eq!(rt; (bank.log_len(), bank.last_log_len(), frames.dirty_len()), (0, 7, 0));
     assert_eq!(rt; frames.load(0x10000, 4), Some(0x0403_0201));
-    assert_eq!(rt; frames.load(0x10ffc, 4), Some(0));
     assert_eq!(rt; bank.load(0xc000_0000, 4), Some(0x73));
     Ok(())
 }
@@ -167,6 +186,13 @@ fn the_log_has_4096_entries(rt: HostRuntime) -> Result<(), Fail> {
     Ok(())
 }
 
+/// The words at some addresses of a bank, each with what it has to be.
+fn has_words(rt: &impl Abort, bank: &Bank, words: &[(u32, u32)]) {
+    for (addr, word) in words {
+        assert_eq!(rt; bank.load(*addr, 4), Some(*word));
+    }
+}
+
 #[test]
 fn starts_anew(rt: HostRuntime) -> Result<(), Fail> {
     let mut bank = Bank::new(rt.alloc(), &[1, 2])?;
@@ -176,17 +202,20 @@ fn starts_anew(rt: HostRuntime) -> Result<(), Fail> {
     assert!(rt; bank.store(0xf000_0400, 4, 9));
     assert_eq!(rt; bank.out_len(), 2);
     assert_eq!(rt; (bank.out_word(255), bank.out_word(256)), (Some(9), None));
-    assert_eq!(rt; bank.out_word(0xffff_ffff), None);
 
     let mut copies = [3; 37];
     copies[36] = 0x8765_4321;
     bank.start(&copies);
     assert_eq!(rt; (bank.log_len(), bank.out_len(), bank.out_word(255)), (0, 0, Some(0)));
-    assert_eq!(rt; bank.load(0xe000_0004, 4), Some(0));
-    assert_eq!(rt; bank.load(0xd000_0000, 4), Some(3));
-    assert_eq!(rt; bank.load(0xd000_0090, 4), Some(0x8765_4321));
-    assert_eq!(rt; bank.load(0xd000_0094, 4), Some(0));
-    assert_eq!(rt; bank.load(0xd003_fffc, 4), Some(0));
-    assert_eq!(rt; bank.load(0xc000_0004, 4), Some(2));
+    let words = [
+        (0xc000_0004, 2),
+        (0xd000_0000, 3),
+        (0xd000_0090, 0x8765_4321),
+        (0xd000_0094, 0),
+        (0xd003_fffc, 0),
+        (0xe000_0004, 0),
+        (0xf000_0400, 0),
+    ];
+    has_words(&rt, &bank, &words);
     Ok(())
 }
