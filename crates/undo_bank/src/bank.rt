@@ -118,8 +118,8 @@ impl Bank {
         ensures emptied { log_of (bank_pages self.new) ≡ [] }
         ensures last { self.new.last_log_len ≡ log_count (bank_pages self.old) }
         ensures rest { self.new ≡ record self.old {
-            log = self.new.log;
-            last_log_len = self.new.last_log_len;
+          log = self.new.log;
+          last_log_len = self.new.last_log_len;
         } }
     {
         let count = self.log_len();

@@ -14,13 +14,11 @@ pub fn started_banks_are_ready()
         → IsMadeFrom words areas → IsStarted (copied_words s) areas
         → IsProgram s.pages → ArePages s.pages
         → IsBankMemory words s (areas_over areas s.pages) }
-{
-}
+{}
 
 /// The entries of a log that are put back into a program's memory alone leave the same program as
 /// those that are put back into it with a bank above it, whatever they name.
 pub fn undoing_needs_no_bank()
     ensures { (log : List UndoEntry) (areas : Areas) (pages : Pages) → IsProgram pages
         → HaveOneProgram (undone log (areas_over areas pages)) (undone log pages) }
-{
-}
+{}

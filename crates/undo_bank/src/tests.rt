@@ -163,7 +163,10 @@ fn leaves_what_is_no_entry_of_the_program(rt: HostRuntime) -> Result<(), Fail> {
     write_log(&rt, &mut bank, &NO_ENTRIES);
     assert_eq!(rt; bank.log_len(), 7);
     undo(&rt, &mut bank, &mut frames);
-    assert_eq!(rt; (bank.log_len(), bank.last_log_len(), frames.dirty_len()), (0, 7, 0));
+    assert_eq!(rt;
+        (bank.log_len(), bank.last_log_len(), frames.dirty_len()),
+        (0, 7, 0)
+    );
     assert_eq!(rt; frames.load(0x10000, 4), Some(0x0403_0201));
     assert_eq!(rt; bank.load(0xc000_0000, 4), Some(0x73));
     Ok(())
@@ -206,7 +209,10 @@ fn starts_anew(rt: HostRuntime) -> Result<(), Fail> {
     let mut copies = [3; 37];
     copies[36] = 0x8765_4321;
     bank.start(&copies);
-    assert_eq!(rt; (bank.log_len(), bank.out_len(), bank.out_word(255)), (0, 0, Some(0)));
+    assert_eq!(rt;
+        (bank.log_len(), bank.out_len(), bank.out_word(255)),
+        (0, 0, Some(0))
+    );
     let words = [
         (0xc000_0004, 2),
         (0xd000_0000, 3),

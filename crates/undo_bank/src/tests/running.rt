@@ -77,12 +77,7 @@ fn step_over<L: Ledger>(
 }
 
 /// Runs to a call or a trap, at most a hundred steps.
-fn run_on<L: Ledger>(
-    m: &mut Machine,
-    bank: &mut Bank,
-    frames: &mut Frames,
-    blank: Blank,
-) -> Outcome
+fn run_on<L: Ledger>(m: &mut Machine, bank: &mut Bank, frames: &mut Frames, blank: Blank) -> Outcome
     requires name { blank.name ≡ L.name }
     requires parts { blank.parts ≡ L.parts }
     requires some_parts { 0 < blank.parts }

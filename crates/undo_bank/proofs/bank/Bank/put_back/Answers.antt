@@ -21,9 +21,9 @@ read inside self index address width old are view few first second third =
 pub returns-then-width-eq1-clause-pages : goal.returns-then-width-eq1-clause-pages
 returns-then-width-eq1-clause-pages c =
     let is : IsWidth c.word-width.result = elim c.then-width-eq1.branch [
-    then-width-eq1-via-then-width-eq1 w ↦ inl w.if-width-eq1.true
-    | then-width-eq1-via-else-width-eq1+then-width-eq2 w ↦ inr (inl w.if-width-eq2.true)
-    | then-width-eq1-via-else-width-eq1+else-width-eq2+then-width-eq4 w ↦ inr (inr w.if-width-eq4.true)
+      | then-width-eq1-via-then-width-eq1 w ↦ inl w.if-width-eq1.true
+      | then-width-eq1-via-else-width-eq1+then-width-eq2 w ↦ inr (inl w.if-width-eq2.true)
+      | then-width-eq1-via-else-width-eq1+else-width-eq2+then-width-eq4 w ↦ inr (inr w.if-width-eq4.true)
     ] in
     c.store.ensures.bytes
     ∙ sym (put_back-known (entry_at (bank_pages c.args.self.now) c.args.index) c.word-addr.result c.word-width.result c.word-old.result c.args.f.now.pages
