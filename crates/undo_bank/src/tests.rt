@@ -131,8 +131,9 @@ fn puts_back_newest_first(rt: HostRuntime) -> Result<(), Fail> {
     Ok(())
 }
 
-/// Writes entries of any width into the log.
-fn write_log(rt: &impl Abort, bank: &mut Bank, entries: &[(u32, u32)]) {
+/// Writes seven entries of any width into the log.
+fn write_log(rt: &impl Abort, bank: &mut Bank, entries: &[(u32, u32); 7]) {
+    let _ = bank.store(0xe000_0000, 4, 7);
     let mut place = 0xe000_0004;
     for (addr, width) in entries {
         assert!(rt; place < 0xe000_c000);
@@ -141,7 +142,6 @@ fn write_log(rt: &impl Abort, bank: &mut Bank, entries: &[(u32, u32)]) {
         let _ = bank.store(place + 8, 4, 0xffff_ffff);
         place += 12;
     }
-    let _ = bank.store(0xe000_0000, 4, (place - 0xe000_0004) / 12);
 }
 
 /// Entries by address and width: of a width that is none, with bytes that are not mapped, and of
