@@ -1,0 +1,7 @@
+use Rattle.std.proofs.Common.{List, ℕ, arith}
+use Rattle.std.specs.Ordering.{nat_cmp}
+use Rattle.std.specs.FinMap.{len-empty}
+use Rattle.undo_bank.proofs.tests.one_page.Goals as goal
+
+pub map_page-requires-clause-few : goal.map_page-requires-clause-few
+map_page-requires-clause-few c = rw c.in_ok-frames.ensures.pages (omega (arith, len-empty nat_cmp (List ℕ)))
