@@ -1,6 +1,6 @@
 //! Words that run in a bank.
 
-ghost use Rattle.std.specs.Prelude.{◌≡◌, ◌<◌, ◌^◌, length};
+ghost use Rattle.std.specs.Prelude.{◌≡◌, ◌<◌, ◌^◌, length, true};
 ghost use Rattle.sl_model.specs.Marks.{MarksGoOn};
 ghost use Rattle.sl_model.specs.Step as next;
 ghost use Rattle.rv_machine.specs.Machine.{state_of, WentOn};
