@@ -1,6 +1,7 @@
 -- What is read and undone at the end of a tracer's run.
+use Rattle.std.specs.Prelude.{[], slice_index}
 use Rattle.std.specs.FinMap.{empty}
-use Rattle.std.proofs.Common.{◌≡◌, ℕ, ◌+◌, ◌-◌, ◌≤◌, List, ◌++◌, length, take, refl, ap, ◌∙◌, sym, subst, arith, append_assoc}
+use Rattle.std.proofs.Common.{◌≡◌, ℕ, ◌+◌, ◌-◌, ◌≤◌, List, ◌++◌, length, take, refl, ap, ◌∙◌, sym, subst, arith}
 use Rattle.std.proofs.lemmas.List.{take_at, take-append-le}
 use Rattle.page_frames.specs.MarkedPages.{MarkedPages}
 use Rattle.sl_model.specs.declared.bank.TheConstants.{MOST_ENTRIES, MOST_OUTPUT_WORDS}
@@ -21,6 +22,9 @@ use Rattle.undo_bank.proofs.LogLaws.{IsProgram-empty, log_count-areas, output_co
 use Rattle.undo_bank.proofs.UndoneLaws.{HaveOneProgram-undone, IsProgram-undone}
 use Rattle.undo_isolation.specs.Ended.{HasEnded}
 use Rattle.undo_isolation.specs.InPlace.{Tells, RanAt}
+use Rattle.rv_machine.specs.Machine.{state_of}
+use Rattle.rv_machine.specs.declared.machine.Machine.{Machine}
+use Rattle.undo_isolation.proofs.Words.{with_words}
 use Rattle.undo_isolation.proofs.Meant.{outcome-registers}
 
 -- ---- the log and the output of the bank are within their limits
@@ -64,7 +68,7 @@ told-end : (end : State) (told : TracerEnd) (outcome : (e : TracerEnd) × TellsE
 told-end end told outcome is = subst (TellsEnd end) (sym (is ∙ outcome-registers end outcome.0 outcome.1)) outcome.1
 
 -- a record that was read at the end
-pub RanAt-ended : (code : TracerCode) (point : ℕ) (s end : State) (b : Areas) (base : Pages) (told : Record) (entries before after : ℕ)
+RanAt-ended : (code : TracerCode) (point : ℕ) (s end : State) (b : Areas) (base : Pages) (told : Record) (entries before after : ℕ)
     → AreAreas b → IsProgram base → end.pages ≡ areas_over b base → HasEnded code point s end before after
     → told ≡ record { count = s.count; point = point; pc = s.pc; words = output_of (bank_pages b); outcome = outcome_of (register end 10) (register end 11) }
     → entries ≡ log_count (bank_pages b) → RanAt code point s told entries (after - before)
@@ -82,3 +86,14 @@ RanAt-ended code point s end b base told entries before after are program memory
     } in
     let counted : entries ≡ log_count (steps ended.count start).pages = logged ∙ log_count-over b base are program ∙ ap log_count pages in
     subst (RanAt code point s told entries) taken (record { memory = ended.memory; bank = ended.bank; ends = ended.ends; tells = tells; logged = counted })
+
+-- the same of a record that was begun with an outcome, and to which the words were added
+pub RanAt-read : (code : TracerCode) (point : ℕ) (s : State) (m : Machine) (b : Areas) (base : Pages) (begun told : Record) (outcome : TracerEnd) (entries before after : ℕ)
+    → AreAreas b → IsProgram base → HasEnded code point s (state_of m (areas_over b base)) before after → outcome ≡ outcome_of (slice_index m.x 10) (slice_index m.x 11)
+    → begun ≡ record { count = s.count; point = point; pc = s.pc; words = []; outcome = outcome } → told ≡ with_words begun (output_of (bank_pages b))
+    → entries ≡ log_count (bank_pages b) → RanAt code point s told entries (after - before)
+RanAt-read code point s m b base begun told outcome entries before after are program ended is_outcome is_begun is_told logged =
+    let head : TracerEnd → Record = λ end. record { count = s.count; point = point; pc = s.pc; words = []; outcome = end } in
+    let words : List ℕ = output_of (bank_pages b) in
+    RanAt-ended code point s (state_of m (areas_over b base)) b base told entries before after are program refl ended
+    (is_told ∙ ap (λ (r : Record). with_words r words) (is_begun ∙ ap head is_outcome)) logged

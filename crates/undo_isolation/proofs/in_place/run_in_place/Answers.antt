@@ -1,20 +1,10 @@
-use Rattle.std.proofs.Common.{◌≡◌, ◌-◌, [], take, refl, ap, ◌∙◌}
-use Rattle.sl_model.specs.Bank.{output_of}
-use Rattle.sl_model.specs.Pages.{Pages}
+use Rattle.std.proofs.Common.{◌≡◌, ◌-◌, take, ap, ◌∙◌}
 use Rattle.sl_model.specs.State.{State}
 use Rattle.rv_machine.specs.Machine.{state_of}
-use Rattle.page_frames.specs.MarkedPages.{MarkedPages}
-use Rattle.tracer_lang.specs.declared.record.Record.{Record}
-use Rattle.tracer_lang.specs.declared.record.TracerEnd.{TracerEnd}
-use Rattle.undo_bank.specs.Areas.{Areas, areas_over, bank_pages}
-use Rattle.undo_isolation.specs.InPlace.{RanAt}
 use Rattle.undo_isolation.proofs.Meant.{IsMeant-ran}
 use Rattle.undo_isolation.proofs.Readied.{IsMadeFrom-code}
-use Rattle.undo_isolation.proofs.Restored.{few_entries, few_words, restored, marks-cut, same_memory, RanAt-ended}
-use Rattle.undo_isolation.proofs.Words.{with_words}
-use Rattle.undo_isolation.proofs.in_place.run_in_place.Given.{Over}
+use Rattle.undo_isolation.proofs.Restored.{few_entries, few_words, restored, marks-cut, same_memory, RanAt-read}
 use Rattle.undo_isolation.proofs.in_place.run_in_place.Goals as goal
-use Rattle.undo_isolation.proofs.in_place.run_in_place.Goals.{After-undo}
 
 pub read_words-requires-clause-few : goal.read_words-requires-clause-few
 read_words-requires-clause-few g c =
@@ -26,21 +16,18 @@ undo-requires-clause-few g c =
     let ran = c.run_tracer.ensures in
     few_entries c.args.code.now.words (state_of c.args.m.now c.args.f.now.pages) c.run_tracer.new.bank c.run_tracer.new.f.pages ran.areas ran.pages ran.ended.contained
 
-ran_there : (g : Over) (c : After-undo g) → RanAt c.args.code.now c.args.point (state_of c.args.m.now c.args.f.now.pages) c.read_words.new.rec c.undo.new.bank.last_log_len (c.run_tracer.new.steps - c.args.steps.now)
-ran_there g c =
-    let ran = c.run_tracer.ensures in
-    let b : Areas = c.run_tracer.new.bank in
-    let base : Pages = c.run_tracer.new.f.pages in
-    let told = c.read_words.ensures ∙ ap (λ (r : Record). with_words r (output_of (bank_pages b))) (c.begin.ensures ∙ ap (λ (o : TracerEnd). record { count = c.args.m.now.count; point = c.args.point; pc = c.args.m.now.pc; words = []; outcome = o }) c.outcome_of.ensures) in
-    RanAt-ended c.args.code.now c.args.point (state_of c.args.m.now c.args.f.now.pages) (state_of c.run_tracer.new.m (areas_over b base)) b base c.read_words.new.rec c.undo.new.bank.last_log_len c.args.steps.now c.run_tracer.new.steps
-    ran.areas ran.pages refl ran.ended told c.undo.ensures.last
-
 pub returns-clause-ran : goal.returns-clause-ran
-returns-clause-ran g c = ran_there g c
+returns-clause-ran g c =
+    let ran = c.run_tracer.ensures in
+    RanAt-read c.args.code.now c.args.point (state_of c.args.m.now c.args.f.now.pages) c.run_tracer.new.m c.run_tracer.new.bank c.run_tracer.new.f.pages c.begin.new.self c.read_words.new.rec c.outcome_of.result c.undo.new.bank.last_log_len c.args.steps.now c.run_tracer.new.steps
+    ran.areas ran.pages ran.ended c.outcome_of.ensures c.begin.ensures c.read_words.ensures c.undo.ensures.last
 
 pub returns-clause-meant : goal.returns-clause-meant
 returns-clause-meant g c = λ script stands.
-    IsMeant-ran c.args.code.now script c.args.point (state_of c.args.m.now c.args.f.now.pages) c.read_words.new.rec c.undo.new.bank.last_log_len (c.run_tracer.new.steps - c.args.steps.now) stands c.run_tracer.ensures.observed c.requires.point (ran_there g c)
+    let ran = c.run_tracer.ensures in
+    IsMeant-ran c.args.code.now script c.args.point (state_of c.args.m.now c.args.f.now.pages) c.read_words.new.rec c.undo.new.bank.last_log_len (c.run_tracer.new.steps - c.args.steps.now) stands ran.observed c.requires.point
+    (RanAt-read c.args.code.now c.args.point (state_of c.args.m.now c.args.f.now.pages) c.run_tracer.new.m c.run_tracer.new.bank c.run_tracer.new.f.pages c.begin.new.self c.read_words.new.rec c.outcome_of.result c.undo.new.bank.last_log_len c.args.steps.now c.run_tracer.new.steps
+    ran.areas ran.pages ran.ended c.outcome_of.ensures c.begin.ensures c.read_words.ensures c.undo.ensures.last)
 
 pub returns-clause-memory : goal.returns-clause-memory
 returns-clause-memory g c =
