@@ -1,12 +1,12 @@
 -- What the script of one tracepoint leaves.
-use Rattle.std.proofs.Common.{◌≡◌, ℕ, Bool, true, false, List, [], ◌∷◌, map, cond, refl, ap, ◌∙◌}
+use Rattle.std.proofs.Common.{◌≡◌, ℕ, Bool, true, false, [], ◌∷◌, cond, refl, ap}
 use Rattle.std.specs.Prelude.{◌==◌}
 use Rattle.sl_model.specs.State.{State, register}
 use Rattle.tracer_lang.specs.declared.record.Record.{Record}
 use Rattle.tracer_lang.specs.declared.record.TracerEnd.TheVariants.{Done}
 use Rattle.tracer_lang.specs.Meaning.{meaning, statement_meaning, statements_meaning, expression_meaning, record_of}
 use Rattle.tracer_lang.specs.Firing.{records_at}
-use Rattle.epoch_run.specs.AtScript.{A0, at_tree, emit_at, AtEmits}
+use Rattle.epoch_run.specs.AtScript.{A0, at_tree, AtEmits}
 
 -- the record of its tracer
 abbrev left_by : State → Record

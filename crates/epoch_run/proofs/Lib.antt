@@ -9,5 +9,6 @@ mod Stretch
 mod SoFar
 mod OneSegment
 mod Fired
+mod Closing
 mod AtScript
 pub mod Planned

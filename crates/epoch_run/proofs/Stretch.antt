@@ -2,6 +2,8 @@
 use Rattle.std.proofs.Common.{◌≡◌, ℕ, suc, ◌+◌, ◌-◌, ◌<◌, ◌≤◌, List, ◌++◌, take, drop, Option, Some, None, refl, sym, ap, subst, ◌∙◌, append_assoc, arith}
 use Rattle.sl_base.specs.declared.refused.Refused.{Refused}
 use Rattle.sl_base.specs.declared.refused.Refused.TheVariants as refused
+use Rattle.sl_model.specs.declared.run_state.RunState.{RunState}
+use Rattle.sl_model.specs.declared.run_state.RunState.TheVariants.{Running, Exited}
 use Rattle.sl_model.specs.Pages.{Pages}
 use Rattle.sl_model.specs.State.{State}
 use Rattle.call_log.specs.declared.breaks.Break.{Break}
@@ -11,11 +13,13 @@ use Rattle.tracer_lang.specs.declared.record.Record.{Record}
 use Rattle.page_frames.specs.MarkedPages.{MarkedPages}
 use Rattle.rv_machine.specs.declared.machine.Machine.{Machine}
 use Rattle.rv_machine.specs.Machine.{state_of}
-use Rattle.replay.specs.Run.{onward, Goes, Breaks}
+use Rattle.replay.specs.Run.{onward, onward_in, Goes, Breaks}
 use Rattle.replay.specs.Advance.{StoppedAt}
 use Rattle.replay.specs.Breaks.{at_count, listed_break, listed_or, break_after}
 use Rattle.epoch_run.specs.Records.{Tracers}
 use Rattle.epoch_run.specs.Epochs.{between, epoch_break_from, epoch_records_from}
+use Rattle.epoch_run.specs.declared.plan.Worker.{Worker}
+use Rattle.epoch_run.specs.Plans.{state_in}
 use Rattle.epoch_run.specs.Segments.{IsUnderWay, stopped_at, BrokeOff}
 use Rattle.epoch_run.proofs.Arrived.{run-suc, records-suc}
 
@@ -38,6 +42,19 @@ unfolding epoch_break_from
 break_breaks opened rec a b n s kind next breaks =
     let follow : State → Option Break = λ u. epoch_break_from opened rec a b u n in
     ap (λ listed. listed_or s listed (break_after s follow (onward rec s))) (none_within opened rec a b s next) ∙ ap (break_after s follow) breaks
+
+-- a program that goes on runs
+goes_at : (rec : Recording) (s t : State) (status : RunState) → onward_in rec s status ≡ Goes t → status ≡ Running
+goes_at rec s t Running goes = refl
+goes_at rec s t (Exited code) goes = absurd cc
+
+pub goes-running : (rec : Recording) (s t : State) → onward rec s ≡ Goes t → s.status ≡ Running
+unfolding onward
+goes-running rec s t goes = goes_at rec s t s.status goes
+
+-- the state of a worker is that of its machine and memory alone
+pub same_state : (worker old : Worker) → worker.m ≡ old.m → worker.f ≡ old.f → state_in worker ≡ state_in old
+same_state worker old machine memory = rw (machine, memory) refl
 
 -- ---- what is left
 

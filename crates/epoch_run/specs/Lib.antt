@@ -5,5 +5,7 @@ pub mod Segments
 pub mod Plans
 pub mod Loaded
 pub mod Watched
+pub mod Compiled
+pub mod Firings
 pub mod AtScript
 pub mod Standings

@@ -12,6 +12,7 @@ use Rattle.tracer_lang.specs.Script.{tree_of}
 use Rattle.tracer_lang.specs.Firing.{records_at}
 use Rattle.rv_machine.specs.Machine.{state_of}
 use Rattle.checkpoints.specs.RecordedRun.{opened_of}
+use Rattle.undo_bank.specs.Areas.{IsMadeFrom}
 use Rattle.epoch_core.specs.declared.post.PostValue.{PostValue}
 use Rattle.epoch_core.specs.declared.post.PostValue.TheVariants.{Ran, Broke}
 use Rattle.epoch_core.specs.Posts.{IsOwn, HasParts}
@@ -23,11 +24,15 @@ use Rattle.epoch_run.specs.EpochLaws.{epochs_of, value_at}
 
 -- what the tracers of a plan leave: those of its script
 abbrev pub tracers_of : Plan → Tracers
-tracers_of plan = records_at (tree_of plan.script)
+tracers_of plan = records_at (tree_of plan.tracers.script)
 
 -- the state that a worker's machine and memory are in
 abbrev pub state_in : Worker → State
 state_in worker = state_of worker.m worker.f.pages
+
+-- a worker can run the tracers of a plan: its bank is made from their code
+abbrev pub CanTrace : Plan → Worker → Type 0
+CanTrace plan worker = IsMadeFrom plan.tracers.code.words worker.bank
 
 -- what epoch k of a plan comes to
 unfoldable pub value_in : Plan → ℕ → Result (List Record) Break

@@ -5,7 +5,7 @@ use Rattle.checkpoints.specs.RecordedRun.{opened_of}
 use Rattle.epoch_run.specs.declared.plan.Plan.{Plan}
 use Rattle.epoch_run.specs.declared.plan.Worker.{Worker}
 use Rattle.epoch_run.specs.declared.standing.Standing.{Standing}
-use Rattle.epoch_run.specs.Plans.{state_in}
+use Rattle.epoch_run.specs.Plans.{state_in, CanTrace}
 
 -- a worker is in the state that a checkpoint records, where one is named
 abbrev pub StandsAt : Plan → Worker → Option ℕ → Type 0
@@ -13,8 +13,10 @@ StandsAt plan worker None = Unit {0}
 StandsAt plan worker (Some k) =
     state_in worker ≡ recorded_state plan.checkpoints.rec (opened_of plan.checkpoints) k
 
-abbrev pub StandsIn : Plan → Standing → Type 0
-StandsIn plan standing = StandsAt plan standing.worker standing.at
+-- and it can run the tracers of the plan
+pub record StandsIn (plan : Plan) (standing : Standing) : Type 0 where
+  pub state : StandsAt plan standing.worker standing.at
+  pub bank : CanTrace plan standing.worker
 
 -- a checkpoint, where it is not that of the end
 abbrev pub place_before_end : Plan → ℕ → Option ℕ

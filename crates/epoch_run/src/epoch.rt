@@ -5,7 +5,7 @@ ghost use Rattle.sl_base.specs.Refusals.{Tells};
 ghost use Rattle.call_log.specs.declared.breaks.Break.{Break as FirstBreak};
 ghost use Rattle.tracer_lang.specs.declared.record.Record.{Record as Left};
 ghost use Rattle.epoch_run.specs.EpochLaws.{epochs_of};
-ghost use Rattle.epoch_run.specs.Plans.{posted, value_in, size_in};
+ghost use Rattle.epoch_run.specs.Plans.{posted, value_in, size_in, CanTrace};
 
 use crate::plan::{Plan, Worker};
 use crate::running::run_between;
@@ -51,11 +51,13 @@ pub fn run_epoch<L: Ledger>(
     worker: &mut Worker,
     steps: &mut Steps<L>,
 ) -> Result<Post, Memory>
-    requires { k < epochs_of plan.now.cutting }
+    requires within { k < epochs_of plan.now.cutting }
+    requires bank { CanTrace plan.now worker.old }
     ensures epoch { IfOk result (λ post. post.epoch ≡ k) }
     ensures value { IfOk result (λ post.
         post.value ≡ posted plan.now.kinds (value_in plan.now k)) }
     ensures steps { steps.new ≤ steps.old + size_in plan.now k }
+    ensures bank { CanTrace plan.now worker.new }
 {
     let places = plan.cutting.places();
     let a = places[k as usize];
@@ -72,6 +74,7 @@ pub struct PlanRuns<'a, L: Ledger> {
     pub worker: &'a mut Worker,
     /// Instructions of the program.
     pub steps: &'a mut Steps<L>,
+    ghost bank: { CanTrace plan.now worker.now },
 }
 
 impl<'a, L: Ledger> Runs for PlanRuns<'a, L> {

@@ -2,6 +2,7 @@
 #![tactic(auto)]
 
 mod comparing;
+mod compiled;
 mod epoch;
 mod firing;
 mod laws;
@@ -12,6 +13,7 @@ mod running;
 mod segment;
 mod standing;
 
+pub use compiled::CompiledScript;
 pub use epoch::{PlanRuns, run_epoch};
 pub use laws::{
     at_emits, epochs_join, epochs_start_on_the_run, least_break_is_first, one_epoch_is_the_run,

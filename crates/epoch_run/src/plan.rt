@@ -4,10 +4,12 @@ ghost use Rattle.std.specs.Prelude.{◌≡◌, IfOk};
 ghost use Rattle.std.specs.FinMap.{empty};
 ghost use Rattle.rec_format.specs.Recorded.{end_place};
 ghost use Rattle.epoch_cut.specs.Places.{IsCutting};
+ghost use Rattle.undo_bank.specs.Areas.{IsMadeFrom};
 ghost use Rattle.epoch_run.specs.EpochLaws.{epochs_of};
 ghost use Rattle.epoch_run.specs.Loaded.{IsLoaded, IsLoaded-prop};
 ghost use Rattle.epoch_run.specs.Watched.{AreWatched, AreWatched-prop};
 
+use crate::compiled::CompiledScript;
 use analysers::Kind;
 use checkpoints::Checkpoints;
 use elf_image::Image;
@@ -18,7 +20,9 @@ use sl_base::{Memory, Seq};
 use sl_model::{Layout, RunState};
 use std::alloc::Global;
 use tracepoints::Points;
-use tracer_lang::Script;
+use tracer_code::TracerCode;
+use undo_bank::Bank;
+use undo_isolation::RecordRoom;
 
 /// A recording, cut into epochs, with the script whose tracers run on them and the analyses of what
 /// they leave.
@@ -31,15 +35,15 @@ pub struct Plan {
     pub checkpoints: Checkpoints,
     /// The places where the intervals between checkpoints are cut.
     pub cutting: Cutting,
-    /// The tracers.
-    pub script: Script,
+    /// The tracers, as a script and as code.
+    pub tracers: CompiledScript,
     /// The points of the script, at which they fire.
     pub points: Points,
     /// The analyses.
     pub kinds: Seq<Kind>,
     ghost loaded: { IsLoaded image checkpoints } by { IsLoaded-prop image checkpoints },
     ghost cuts: { IsCutting (end_place checkpoints.rec) cutting },
-    ghost watched: { AreWatched points script } by { AreWatched-prop points script },
+    ghost watched: { AreWatched points tracers.script } by { AreWatched-prop points tracers.script },
 }
 
 impl Plan {
@@ -51,18 +55,22 @@ impl Plan {
     }
 }
 
-/// The machine and the memory of one worker, which runs one epoch after the other.
+/// The machine and the memory of one worker, which runs one epoch after the other, and what the
+/// tracers that fire there run with: a bank of their own, and room for a record.
 #[derive(Drop)]
 pub struct Worker {
     pub m: Machine,
     pub f: Frames,
+    pub bank: Bank,
+    pub room: RecordRoom,
 }
 
 impl Worker {
-    /// A worker that has run nothing yet. No memory is mapped.
-    pub fn new(alloc: Global) -> Result<Worker, Memory>
+    /// A worker that has run nothing yet, with a bank for this code. No memory is mapped.
+    pub fn new(alloc: Global, code: &TracerCode) -> Result<Worker, Memory>
         ensures pages { IfOk result (λ worker. worker.f.pages ≡ empty) }
         ensures count { IfOk result (λ worker. worker.m.count ≡ 0) }
+        ensures bank { IfOk result (λ worker. IsMadeFrom code.now.words worker.bank) }
     {
         let m = Machine {
             pc: 0,
@@ -78,6 +86,8 @@ impl Worker {
             },
         };
         let f = Frames::new(alloc)?;
-        Ok(Worker { m, f })
+        let bank = Bank::new(alloc, code.words.as_slice())?;
+        let room = RecordRoom::new(alloc)?;
+        Ok(Worker { m, f, bank, room })
     }
 }

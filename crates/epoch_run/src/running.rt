@@ -5,7 +5,7 @@ ghost use Rattle.sl_base.specs.Refusals.{Tells};
 ghost use Rattle.rec_format.specs.Recorded.{end_place, recorded_state};
 ghost use Rattle.checkpoints.specs.RecordedRun.{opened_of};
 ghost use Rattle.epoch_run.specs.Epochs.{epoch_size, epoch_value};
-ghost use Rattle.epoch_run.specs.Plans.{tracers_of, state_in};
+ghost use Rattle.epoch_run.specs.Plans.{tracers_of, state_in, CanTrace};
 
 use crate::plan::{Plan, Worker};
 use crate::segment::run_segment;
@@ -34,9 +34,11 @@ pub fn run_on<L: Ledger>(
     requires within { b ≤ end_place plan.now.checkpoints.rec }
     requires at { let opened = opened_of plan.now.checkpoints in
         state_in worker.old ≡ recorded_state plan.now.checkpoints.rec opened a }
+    requires bank { CanTrace plan.now worker.old }
     ensures value { let opened = opened_of plan.now.checkpoints in
         Tells result (epoch_value plan.now.checkpoints.rec opened (tracers_of plan.now) a b) }
     ensures steps { steps.new ≤ steps.old + epoch_size plan.now.checkpoints.rec a b }
+    ensures bank { CanTrace plan.now worker.new }
     ensures state { let rec = plan.now.checkpoints.rec in
         let next = recorded_state rec (opened_of plan.now.checkpoints) b in
         OnOk result (b < end_place rec → state_in worker.new ≡ next) }
@@ -65,9 +67,11 @@ pub fn run_between<L: Ledger>(
 ) -> Result<Seq<Record>, Refused<Break>>
     requires below { a < b }
     requires within { b ≤ end_place plan.now.checkpoints.rec }
+    requires bank { CanTrace plan.now worker.old }
     ensures value { let opened = opened_of plan.now.checkpoints in
         Tells result (epoch_value plan.now.checkpoints.rec opened (tracers_of plan.now) a b) }
     ensures steps { steps.new ≤ steps.old + epoch_size plan.now.checkpoints.rec a b }
+    ensures bank { CanTrace plan.now worker.new }
 {
     plan.checkpoints.state_at(a, &mut worker.m, &mut worker.f)?;
     run_on(alloc, plan, a, b, worker, steps)

@@ -7,7 +7,7 @@ ghost use Rattle.rec_format.specs.Recorded.{end_place, recorded_state};
 ghost use Rattle.checkpoints.specs.RecordedRun.{opened_of};
 ghost use Rattle.epoch_run.specs.Epochs.{epoch_size, epoch_break, epoch_records};
 ghost use Rattle.epoch_run.specs.Segments.{stopped_at, CameTo, TellsBreak};
-ghost use Rattle.epoch_run.specs.Plans.{tracers_of, state_in};
+ghost use Rattle.epoch_run.specs.Plans.{tracers_of, state_in, CanTrace};
 
 use crate::comparing::break_at_checkpoint;
 use crate::firing::{fire, fire_at_checkpoint};
@@ -48,6 +48,7 @@ fn run_to<L: Ledger>(
     requires from { worker.old.m.count ≤ upto }
     requires few { upto ≤ 2 ^ 40 }
     requires fits { Fits (state_in worker.old) }
+    requires bank { CanTrace plan.now worker.old }
     ensures came { let rec = plan.now.checkpoints.rec in
         let left = upto - worker.old.m.count in
         CameTo rec (tracers_of plan.now) (state_in worker.old) left (state_in worker.new)
@@ -56,6 +57,7 @@ fn run_to<L: Ledger>(
     ensures marks { OnOk result (MarksGoOn true worker.old.f.pages worker.old.f.dirty
         worker.new.f.pages worker.new.f.dirty) }
     ensures steps { steps.new + worker.old.m.count ≤ steps.old + upto }
+    ensures bank { CanTrace plan.now worker.new }
 {
     let mut fired = Fired::new();
     for done in worker.m.count..upto {
@@ -86,6 +88,7 @@ pub fn run_segment<L: Ledger>(
     requires within { j < end_place plan.now.checkpoints.rec }
     requires at { let opened = opened_of plan.now.checkpoints in
         state_in worker.old ≡ recorded_state plan.now.checkpoints.rec opened j }
+    requires bank { CanTrace plan.now worker.old }
     ensures first { let opened = opened_of plan.now.checkpoints in
         TellsBreak result (epoch_break plan.now.checkpoints.rec opened j (j + 1)) }
     ensures records { let rec = plan.now.checkpoints.rec in
@@ -96,6 +99,7 @@ pub fn run_segment<L: Ledger>(
         let next = recorded_state rec (opened_of plan.now.checkpoints) (j + 1) in
         OnOk result (j + 1 < end_place rec → state_in worker.new ≡ next) }
     ensures steps { steps.new ≤ steps.old + epoch_size plan.now.checkpoints.rec j (j + 1) }
+    ensures bank { CanTrace plan.now worker.new }
 {
     let next = j + 1;
     let upto = recorded_count(plan, next);

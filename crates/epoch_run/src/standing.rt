@@ -5,7 +5,7 @@ ghost use Rattle.sl_base.specs.Refusals.{Tells};
 ghost use Rattle.rec_format.specs.Recorded.{end_place, recorded_state};
 ghost use Rattle.checkpoints.specs.RecordedRun.{opened_of};
 ghost use Rattle.epoch_run.specs.Epochs.{epoch_size, epoch_value};
-ghost use Rattle.epoch_run.specs.Plans.{tracers_of, state_in, posted, value_in, values_of, size_in};
+ghost use Rattle.epoch_run.specs.Plans.{tracers_of, state_in, posted, value_in, values_of, size_in, CanTrace};
 ghost use Rattle.epoch_run.specs.EpochLaws.{epochs_of};
 ghost use Rattle.epoch_run.specs.Standings.{StandsIn, place_before_end};
 
@@ -27,11 +27,11 @@ pub struct Standing {
 }
 
 impl Standing {
-    /// A worker that has run nothing yet.
-    pub fn new(alloc: Global) -> Result<Standing, Memory>
-        ensures { IfOk result (λ standing. standing.at ≡ None) }
+    /// A worker that has run nothing yet, and can run the tracers of a plan.
+    pub fn new(alloc: Global, plan: &Plan) -> Result<Standing, Memory>
+        ensures { IfOk result (StandsIn plan.now) }
     {
-        let worker = Worker::new(alloc)?;
+        let worker = Worker::new(alloc, plan.tracers.code())?;
         Ok(Standing { worker, at: None })
     }
 }
@@ -40,9 +40,10 @@ impl Standing {
 fn stand_at(plan: &Plan, a: u32, standing: &mut Standing) -> Result<(), Memory>
     requires within { a ≤ end_place plan.now.checkpoints.rec }
     requires stands { StandsIn plan.now standing.old }
-    ensures { let opened = opened_of plan.now.checkpoints in
+    ensures state { let opened = opened_of plan.now.checkpoints in
         let recorded = recorded_state plan.now.checkpoints.rec opened a in
         OnOk result (state_in standing.new.worker ≡ recorded) }
+    ensures bank { CanTrace plan.now standing.new.worker }
 {
     if standing.at == Some(a) {
         return Ok(());

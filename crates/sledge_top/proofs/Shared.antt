@@ -8,8 +8,10 @@ use Rattle.checkpoints.specs.contracts.kept.Checkpoints as checkpoints
 use Rattle.epoch_cut.specs.contracts.cutting.Cutting as cutting
 use Rattle.tracer_lang.specs.contracts.tree.Block as block
 use Rattle.tracer_lang.specs.contracts.script.Script as script
+use Rattle.tracer_code.specs.contracts.code.TracerCode as code
 use Rattle.tracepoints.specs.contracts.points.Points as points
 use Rattle.analysers.specs.contracts.kind.Kind as kind
+use Rattle.epoch_run.specs.contracts.compiled.CompiledScript as tracers
 use Rattle.epoch_run.specs.contracts.plan.Plan as plan
 
 image_is_shared : IsSync (image.the_field).row
@@ -27,6 +29,12 @@ block_is_shared = search (statements.crosses, expressions.crosses, sendable, cro
 script_is_shared : IsSync (script.the_field).row
 script_is_shared = search (block_is_shared, sendable, crosses) depth 40 fits 20000
 
+code_is_shared : IsSync (code.the_field).row
+code_is_shared = search (sendable, crosses) depth 40 fits 20000
+
+tracers_are_shared : IsSync (tracers.the_field).row
+tracers_are_shared = search (script_is_shared, code_is_shared, sendable, crosses) depth 40 fits 20000
+
 points_are_shared : IsSync (points.the_field).row
 points_are_shared = search (sendable, crosses) depth 40 fits 20000
 
@@ -35,4 +43,4 @@ kind_is_shared = search (sendable, crosses) depth 40 fits 20000
 
 pub plan_is_shared : IsSync (plan.the_field).row
 plan_is_shared =
-    search (image_is_shared, checkpoints_are_shared, cutting_is_shared, script_is_shared, points_are_shared, kind_is_shared, sendable, crosses) depth 20 fits 20000
+    search (image_is_shared, checkpoints_are_shared, cutting_is_shared, tracers_are_shared, points_are_shared, kind_is_shared, sendable, crosses) depth 20 fits 20000

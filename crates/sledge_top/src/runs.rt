@@ -60,7 +60,7 @@ impl<'a> Epochs for PlanEpochs<'a> {
     ghost not_skipped = { λ epochs. values_are_own epochs.plan.now };
 
     fn start(&self, alloc: Global) -> Result<Standing, Memory> {
-        Standing::new(alloc)
+        Standing::new(alloc, self.plan)
     }
 
     fn run(&self, alloc: Global, standing: &mut Standing, epoch: u32) -> Result<Post, Memory> {

@@ -26,7 +26,7 @@ use checkpoints::Checkpoints;
 use cli_words::TraceOptions;
 use elf_image::{Image, ImageFault, flat_image, read_image};
 use epoch_cut::cut;
-use epoch_run::{Plan, at_script, runs_end_as_recorded};
+use epoch_run::{CompiledScript, Plan, at_script, runs_end_as_recorded};
 use rec_format::{Recording, read_recording};
 use replay::load;
 use report::{Refusal, checked_text, recorded_end, report_text};
@@ -34,6 +34,7 @@ use sl_base::{Gate, Memory, Refused, Seq, Store};
 use std::alloc::Global;
 use std::thread::Threads;
 use tracepoints::Points;
+use tracer_compile::compile;
 use tracer_lang::Script;
 use tracer_read::read_script;
 
@@ -127,7 +128,7 @@ fn traced<R: Threads + Sync, G: Gate>(
     gate: &G,
 ) -> Result<Vec<u8>, Refused<Refusal>>
     ensures text { Gives (λ text. text.items) result (traced plan.now.checkpoints.rec
-        (tree_of plan.now.script) plan.now.kinds (opened_of plan.now.checkpoints)) }
+        (tree_of plan.now.tracers.script) plan.now.kinds (opened_of plan.now.checkpoints)) }
     ensures later { IfErr result IsLaterFault }
 {
     runs_end_as_recorded();
@@ -182,18 +183,20 @@ pub fn plan_of(
     ensures recording { IfOk result (λ plan. plan.checkpoints.rec ≡ rec) }
     ensures opened { IfOk result (λ plan. opened_of plan.checkpoints ≡ opening image rec.args) }
     ensures image { IfOk result (λ plan. plan.image ≡ image) }
-    ensures script { IfOk result (λ plan. tree_of plan.script ≡ tree_of script) }
+    ensures script { IfOk result (λ plan. tree_of plan.tracers.script ≡ tree_of script) }
     ensures kinds { IfOk result (λ plan. plan.kinds ≡ kinds) }
 {
     let checkpoints = checkpoints_of(alloc, rec, &image)?;
     let segments = checkpoints.segments();
     let cutting = cut(alloc, segments, epochs.unwrap_or(segments))?;
     let points = Points::new(alloc, &script)?;
+    let code = compile(alloc, &script)?;
+    let tracers = CompiledScript::new(script, code);
     Ok(Plan {
         image,
         checkpoints,
         cutting,
-        script,
+        tracers,
         points,
         kinds,
     })

@@ -11,7 +11,7 @@ use Rattle.epoch_run.proofs.epoch.run_epoch.Goals as goal
 pub run_between-requires-clause-within : goal.run_between-requires-clause-within
 run_between-requires-clause-within g c =
     let plan = c.args.plan.now in
-    rw c.places-places.ensures.value (ends plan.checkpoints.rec plan.cutting c.args.k plan.cuts c.requires).within
+    rw c.places-places.ensures.value (ends plan.checkpoints.rec plan.cutting c.args.k plan.cuts c.requires.within).within
 
 pub returns-clause-value : goal.returns-clause-value
 unfolding value_in

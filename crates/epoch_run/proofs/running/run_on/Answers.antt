@@ -1,4 +1,4 @@
-use Rattle.std.proofs.Common.{◌+◌, sym, ◌∙◌, arith}
+use Rattle.std.proofs.Common.{◌+◌, arith}
 use Rattle.std.proofs.lemmas.Result.{err_from_is_err_and}
 use Rattle.checkpoints.specs.RecordedRun.{opened_of}
 use Rattle.epoch_run.specs.Plans.{tracers_of}
@@ -30,5 +30,6 @@ loop-j-preserved g c =
       so_far = goes_further plan.checkpoints.rec (opened_of plan.checkpoints) (tracers_of plan) c.args.a c.loop-j.j c.loop-j.records.items plan.checkpoints.is_value plan.checkpoints.opens kept.from kept.so_far _ (omega arith) c.in_ok-run_segment.ensures.first c.in_ok-run_segment.ensures.records;
       state = c.in_ok-run_segment.ensures.state;
       from = omega (arith, kept.from);
+      bank = c.run_segment.ensures.bank;
       steps = more_steps plan.checkpoints.rec c.args.a c.loop-j.j _ _ _ plan.checkpoints.is_value (omega arith) kept.steps c.run_segment.ensures.steps;
     }

@@ -1,7 +1,7 @@
 use Rattle.std.proofs.Common.{◌≡◌, ◌+◌, ◌<◌, ◌≤◌}
 use Rattle.rec_format.specs.Recorded.{end_place, recorded_state, recorded_count}
 use Rattle.checkpoints.specs.RecordedRun.{opened_of}
-use Rattle.epoch_run.specs.Plans.{tracers_of, state_in}
+use Rattle.epoch_run.specs.Plans.{tracers_of, state_in, CanTrace}
 use Rattle.epoch_run.proofs.SoFar.{IsSoFar}
 use Rattle.epoch_run.proofs.running.run_on.Given as goal
 
@@ -13,5 +13,6 @@ invariant-loop-j g l =
       so_far : IsSoFar rec opened (tracers_of l.plan) l.a l.j l.records.items;
       state : l.j < end_place rec → state_in l.worker ≡ recorded_state rec opened l.j;
       from : l.a ≤ l.j;
+      bank : CanTrace l.plan l.worker;
       steps : l.steps + recorded_count rec l.a ≤ l.fn.steps + recorded_count rec l.j;
     }

@@ -6,6 +6,8 @@ use Rattle.std.proofs.lemmas.Result.{err_from_is_err_and}
 use Rattle.checkpoints.specs.RecordedRun.{opened_of}
 use Rattle.epoch_run.specs.Plans.{tracers_of, state_in}
 use Rattle.epoch_run.proofs.OneSegment.{of_plan, starts_below, starts_fitting, segment_steps, segment_stops, segment_closes, segment_records, segment_state}
+use Rattle.epoch_run.proofs.Stretch.{same_state}
+use Rattle.epoch_run.proofs.Closing.{closes-running}
 use Rattle.epoch_run.proofs.segment.run_segment.Goals as goal
 
 pub run_to-requires-clause-from : goal.run_to-requires-clause-from
@@ -67,15 +69,16 @@ pub returns-clause-records : goal.returns-clause-records
 returns-clause-records g c =
     let plan = c.args.plan.now in
     let is = of_plan plan c.args.j c.args.worker.now c.recorded_count-upto.result c.requires.within c.requires.at c.recorded_count-upto.ensures.count in
-    segment_records plan.checkpoints.rec (opened_of plan.checkpoints) c.args.j (state_in c.args.worker.now) c.recorded_count-upto.result is (tracers_of plan) (state_in c.run_to.new.worker) c.args.records.now.items c.run_to.new.records.items c.in_ok-run_to.ensures.came c.fire_at_checkpoint.new.records.items c.in_ok-fire_at_checkpoint.ensures
+    segment_records plan.checkpoints.rec (opened_of plan.checkpoints) c.args.j (state_in c.args.worker.now) c.recorded_count-upto.result is (tracers_of plan) (state_in c.run_to.new.worker) c.args.records.now.items c.run_to.new.records.items c.in_ok-run_to.ensures.came c.fire_at_checkpoint.new.records.items c.in_ok-fire_at_checkpoint.ensures.records
 
 pub returns-clause-state : goal.returns-clause-state
 returns-clause-state g c =
     let plan = c.args.plan.now in
     let is = of_plan plan c.args.j c.args.worker.now c.recorded_count-upto.result c.requires.within c.requires.at c.recorded_count-upto.ensures.count in
-    let worker = c.run_to.new.worker in
-    let same : state_in (record worker { f = c.clear_dirty.new.self }) ≡ state_in worker =
+    let worker = c.fire_at_checkpoint.new.worker in
+    let cleared : state_in (record worker { f = c.clear_dirty.new.self }) ≡ state_in worker =
     ap (λ (f : MarkedPages). state_in (record worker { f = f })) c.clear_dirty.ensures in
+    let same = cleared ∙ same_state worker c.run_to.new.worker c.fire_at_checkpoint.ensures.machine c.fire_at_checkpoint.ensures.memory in
     λ inner. same ∙ segment_state plan.checkpoints.rec (opened_of plan.checkpoints) c.args.j (state_in c.args.worker.now) c.recorded_count-upto.result is (tracers_of plan) (state_in c.run_to.new.worker) c.args.records.now.items c.run_to.new.records.items c.in_ok-run_to.ensures.came inner (sym (c.in_default.ensures ∙ segment_closes plan.checkpoints.rec (opened_of plan.checkpoints) c.args.j (state_in c.args.worker.now) c.recorded_count-upto.result is (tracers_of plan) (state_in c.run_to.new.worker) c.args.records.now.items c.run_to.new.records.items c.in_ok-run_to.ensures.came))
 
 pub break_at_checkpoint-requires-clause-holds : goal.break_at_checkpoint-requires-clause-holds
@@ -87,3 +90,8 @@ break_at_checkpoint-requires-clause-holds g c =
     subst (λ k. HoldsRecorded opened.pages checkpoints.rec k c.run_to.new.worker.f) (sym before)
     (holds-goes_on opened.pages checkpoints.rec c.args.j c.args.worker.now.f c.run_to.new.worker.f start
     c.in_ok-run_to.ensures.marks c.dirty_len-kept.ensures.kept.below)
+
+pub fire_at_checkpoint-requires-clause-running : goal.fire_at_checkpoint-requires-clause-running
+fire_at_checkpoint-requires-clause-running g c =
+    let plan = c.args.plan.now in
+    closes-running plan.checkpoints.rec (c.args.j + 1) (state_in c.run_to.new.worker) _ (sym c.in_default.ensures)

@@ -2,7 +2,7 @@ use Rattle.std.proofs.Common.{◌≡◌, ◌+◌, ◌-◌, ◌≤◌, true}
 use Rattle.sl_model.specs.State.{Fits}
 use Rattle.sl_model.specs.Marks.{MarksGoOn}
 use Rattle.epoch_run.specs.Segments.{IsUnderWay}
-use Rattle.epoch_run.specs.Plans.{tracers_of, state_in}
+use Rattle.epoch_run.specs.Plans.{tracers_of, state_in, CanTrace}
 use Rattle.epoch_run.proofs.segment.run_to.Given as goal
 
 abbrev pub invariant-loop-done : goal.invariant-loop-done
@@ -12,5 +12,6 @@ invariant-loop-done g l = record {
   fits : Fits (state_in l.worker);
   from : l.fn.worker.m.count ≤ l.done;
   marks : MarksGoOn true l.fn.worker.f.pages l.fn.worker.f.dirty l.worker.f.pages l.worker.f.dirty;
+  bank : CanTrace l.plan l.worker;
   steps : l.steps + l.fn.worker.m.count ≤ l.fn.steps + l.done;
 }

@@ -24,7 +24,7 @@ returns-in_err-merged-clause-text g c =
     let plan = c.args.plan.now in
     let rec = plan.checkpoints.rec in
     let opened = opened_of plan.checkpoints in
-    let is = traced_is rec (tree_of plan.script) plan.kinds opened (c.runs_end_as_recorded.ensures rec opened plan.checkpoints.is_value plan.checkpoints.opens) in
+    let is = traced_is rec (tree_of plan.tracers.script) plan.kinds opened (c.runs_end_as_recorded.ensures rec opened plan.checkpoints.is_value plan.checkpoints.opens) in
     let why = c.in_err-merged.field-0.0 in
     let fails = fails_on why (merged_or_refusal rec (tracers_of plan) plan.kinds opened) (λ merged. Ok (report (lines_of plan.kinds merged) (recorded_end rec))) c.in_err-merged.ensures.merged in
     let p = err_from_is_err_and c.from_residual.result c.from_residual.ensures.1 in
@@ -36,7 +36,7 @@ returns-clause-text g c =
     let rec = plan.checkpoints.rec in
     let opened = opened_of plan.checkpoints in
     let all = c.in_ok-merged.merged in
-    traced_is rec (tree_of plan.script) plan.kinds opened (c.runs_end_as_recorded.ensures rec opened plan.checkpoints.is_value plan.checkpoints.opens)
+    traced_is rec (tree_of plan.tracers.script) plan.kinds opened (c.runs_end_as_recorded.ensures rec opened plan.checkpoints.is_value plan.checkpoints.opens)
     ∙ ap (λ part. part >>= λ (merged : Merged). Ok (report (lines_of plan.kinds merged) (recorded_end rec))) c.in_ok-merged.ensures.merged
     ∙ ap Ok
     (sym

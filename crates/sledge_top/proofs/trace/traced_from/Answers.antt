@@ -11,7 +11,7 @@ pub returns-clause-text : goal.returns-clause-text
 returns-clause-text g c =
     let plan = c.in_ok-plan.plan in
     let known = c.in_ok-plan.ensures in
-    let same = ap (λ rec. traced rec (tree_of plan.script) plan.kinds (opened_of plan.checkpoints)) known.recording
+    let same = ap (λ rec. traced rec (tree_of plan.tracers.script) plan.kinds (opened_of plan.checkpoints)) known.recording
     ∙ ap (λ (script : ScriptTree). traced c.args.rec script plan.kinds (opened_of plan.checkpoints)) known.script
     ∙ ap (λ (kinds : List Kind). traced c.args.rec (tree_of c.args.script) kinds (opened_of plan.checkpoints)) known.kinds
     ∙ ap (traced c.args.rec (tree_of c.args.script) c.args.kinds) known.opened in

@@ -8,8 +8,8 @@ then_ok : {A E : Type 0} (P Q : A → Type 0) (r : Result A E) → ((x : A) → 
 then_ok P Q (Ok x) follows is = follows x is
 then_ok P Q (Err e) follows is = tt
 
-pub run_epoch-requires : goal.run_epoch-requires
-run_epoch-requires g c = subst (λ n. c.args.epoch < n) (length-values c.args.self.now.plan.now) c.requires
+pub run_epoch-requires-clause-within : goal.run_epoch-requires-clause-within
+run_epoch-requires-clause-within g c = subst (λ n. c.args.epoch < n) (length-values c.args.self.now.plan.now) c.requires
 
 pub returns-clause-value : goal.returns-clause-value
 returns-clause-value g c =
