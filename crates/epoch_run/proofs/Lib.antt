@@ -10,5 +10,6 @@ mod SoFar
 mod OneSegment
 mod Fired
 mod Closing
+mod LastLogs
 mod AtScript
 pub mod Planned

@@ -7,5 +7,6 @@ pub mod Loaded
 pub mod Watched
 pub mod Compiled
 pub mod Firings
+pub mod LastLogs
 pub mod AtScript
 pub mod Standings

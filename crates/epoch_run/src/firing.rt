@@ -9,6 +9,7 @@ ghost use Rattle.rec_format.specs.Recorded.{end_place};
 ghost use Rattle.epoch_run.specs.Records.{at_end};
 ghost use Rattle.epoch_run.specs.Epochs.{closing_records};
 ghost use Rattle.epoch_run.specs.Firings.{RunsAtEnd};
+ghost use Rattle.epoch_run.specs.LastLogs.{stores_of, FiredAt};
 ghost use Rattle.epoch_run.specs.Plans.{tracers_of, state_in, CanTrace};
 
 use crate::plan::{Plan, Worker};
@@ -32,6 +33,8 @@ fn run_tracer<L: Ledger>(plan: &Plan, worker: &mut Worker, point: u32, blank: Bl
     requires some_parts { 0 < blank.parts }
     ensures record { worker.new.room
         ≡ record_of (tree_of plan.now.tracers.script) point (state_in worker.old) }
+    ensures stores { worker.new.bank.last_log_len
+        ≡ stores_of (tree_of plan.now.tracers.script) point (state_in worker.old) }
     ensures machine { worker.new.m ≡ worker.old.m }
     ensures memory { worker.new.f ≡ worker.old.f }
     ensures bank { CanTrace plan.now worker.new }
@@ -58,6 +61,9 @@ fn run_fired(
     requires bank { CanTrace plan.now worker.old }
     ensures records { let left = tracers_of plan.now (state_in worker.old) in
         OnOk result (records.new.items ≡ records.old.items ++ left) }
+    ensures last { OnOk result (FiredAt (tree_of plan.now.tracers.script) (state_in worker.old)
+        records.old.items records.new.items
+        worker.old.bank.last_log_len worker.new.bank.last_log_len) }
     ensures machine { worker.new.m ≡ worker.old.m }
     ensures memory { worker.new.f ≡ worker.old.f }
     ensures bank { CanTrace plan.now worker.new }
@@ -83,6 +89,9 @@ pub fn fire(
     ensures records { let left = tracers_of plan.now (state_in worker.old) in
         worker.old.m.status ≡ RunState.Running
         → OnOk result (records.new.items ≡ records.old.items ++ left) }
+    ensures last { OnOk result (FiredAt (tree_of plan.now.tracers.script) (state_in worker.old)
+        records.old.items records.new.items
+        worker.old.bank.last_log_len worker.new.bank.last_log_len) }
     ensures machine { worker.new.m ≡ worker.old.m }
     ensures memory { worker.new.f ≡ worker.old.f }
     ensures bank { CanTrace plan.now worker.new }
@@ -107,6 +116,9 @@ fn fire_at_end(
     ensures records { let end = plan.now.checkpoints.rec.end in
         let left = at_end (tracers_of plan.now) end (state_in worker.old) in
         OnOk result (records.new.items ≡ records.old.items ++ left) }
+    ensures last { OnOk result (FiredAt (tree_of plan.now.tracers.script) (state_in worker.old)
+        records.old.items records.new.items
+        worker.old.bank.last_log_len worker.new.bank.last_log_len) }
     ensures machine { worker.new.m ≡ worker.old.m }
     ensures memory { worker.new.f ≡ worker.old.f }
     ensures bank { CanTrace plan.now worker.new }
@@ -135,6 +147,9 @@ pub fn fire_at_checkpoint(
     ensures records { let rec = plan.now.checkpoints.rec in
         let left = closing_records rec (tracers_of plan.now) k (state_in worker.old) in
         OnOk result (records.new.items ≡ records.old.items ++ left) }
+    ensures last { OnOk result (FiredAt (tree_of plan.now.tracers.script) (state_in worker.old)
+        records.old.items records.new.items
+        worker.old.bank.last_log_len worker.new.bank.last_log_len) }
     ensures machine { worker.new.m ≡ worker.old.m }
     ensures memory { worker.new.f ≡ worker.old.f }
     ensures bank { CanTrace plan.now worker.new }

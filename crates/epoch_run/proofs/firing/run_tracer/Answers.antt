@@ -15,3 +15,9 @@ returns-clause-record g c =
     let tracers = c.args.plan.now.tracers in
     let stands = subst (λ (code : TracerCode). StandsFor code (tree_of tracers.script)) (sym c.code.ensures.code) c.code.ensures.stands in
     (c.run_in_place.ensures.meant (tree_of tracers.script) stands).record_is
+
+pub returns-clause-stores : goal.returns-clause-stores
+returns-clause-stores g c =
+    let tracers = c.args.plan.now.tracers in
+    let stands = subst (λ (code : TracerCode). StandsFor code (tree_of tracers.script)) (sym c.code.ensures.code) c.code.ensures.stands in
+    (c.run_in_place.ensures.meant (tree_of tracers.script) stands).stores
