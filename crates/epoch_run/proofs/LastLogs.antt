@@ -1,11 +1,22 @@
 -- The log of the last tracer, from one place of a run to the next one.
-use Rattle.std.proofs.Common.{◌≡◌, ℕ, suc, ◌+◌, inl, inr, List, [], ◌∷◌, ◌++◌, Option, Some, None, refl, sym, ap, subst, ◌∙◌, arith}
+use Rattle.std.proofs.Common.{◌≡◌, ℕ, ◌+◌, inl, inr, List, [], refl, sym, subst, ◌∙◌}
+use Rattle.std.specs.Prelude.{Result, Ok, Err, IfOk, slice_index}
+use Rattle.sl_base.specs.Refusals.{Tells}
+use Rattle.sl_base.specs.declared.refused.Refused.{Refused}
+use Rattle.sl_base.specs.declared.refused.Refused.TheVariants as refused
 use Rattle.sl_model.specs.State.{State}
+use Rattle.call_log.specs.declared.breaks.Break.{Break}
 use Rattle.rec_format.specs.declared.recording.Recording.{Recording}
 use Rattle.tracer_lang.specs.declared.record.Record.{Record}
 use Rattle.tracer_lang.specs.Tree.{ScriptTree}
-use Rattle.replay.specs.Run.{onward, Goes, run_from}
-use Rattle.epoch_run.specs.LastLogs.{IsLastAt, StaysSo, FiredAt, IsOnRun, IsLastOf, TellsLast, IsLogged}
+use Rattle.tracer_lang.specs.Script.{tree_of}
+use Rattle.replay.specs.Run.{onward, Goes}
+use Rattle.rec_format.specs.Recorded.{recorded_state}
+use Rattle.checkpoints.specs.RecordedRun.{opened_of}
+use Rattle.epoch_core.specs.declared.post.PostValue.{PostValue}
+use Rattle.epoch_run.specs.declared.plan.Plan.{Plan}
+use Rattle.epoch_run.specs.Plans.{posted}
+use Rattle.epoch_run.specs.LastLogs.{FiredAt, IsOnRun, TellsLast, IsLogged, LogAfter}
 use Rattle.epoch_run.proofs.Arrived.{run-zero, run-suc, run-add}
 
 -- ---- where a run comes
@@ -44,3 +55,17 @@ logged-next rec script first s t left entries goes logged = record { on_run = on
 pub logged-at : (rec : Recording) (script : ScriptTree) (first s t : State) (left : List Record) (entries : ℕ) → t ≡ s → IsLogged rec script first s left entries → IsLogged rec script first t left entries
 logged-at rec script first s t left entries same logged =
     subst (λ (u : State). IsLogged rec script first u left entries) (sym same) logged
+
+-- ---- what is posted of it
+
+module _ (plan : Plan) (k entries : ℕ) where
+  abbrev pub LogsOf : List Record → Type 0
+  LogsOf records =
+      TellsLast plan.checkpoints.rec (tree_of plan.tracers.script)
+      (recorded_state plan.checkpoints.rec (opened_of plan.checkpoints) (slice_index plan.cutting k))
+      records entries
+
+  pub log-posted : (came : Result (List Record) (Refused Break)) (value : PostValue) → ((due : Result (List Record) Break) → Tells came due → value ≡ posted plan.kinds due) → IfOk came LogsOf → LogAfter plan k value entries
+  log-posted (Ok records) value is told = subst (λ v. LogAfter plan k v entries) (sym (is (Ok records) refl)) told
+  log-posted (Err (refused.Fault broken)) value is told = subst (λ v. LogAfter plan k v entries) (sym (is (Err broken) refl)) tt
+  log-posted (Err refused.Memory) value is told = subst (λ v. LogAfter plan k v entries) (sym (is (Ok []) tt)) (λ some. absurd (some refl))

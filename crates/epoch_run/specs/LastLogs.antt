@@ -1,6 +1,6 @@
 -- What a worker's bank tells of the last tracer that fired: its log had as many entries as the
 -- tracer stores on a copy of the machine.
-use Rattle.std.specs.Prelude.{◌≡◌, ℕ, ⊤, ◌⊎◌, List, [], ◌∷◌, ◌++◌, Option, Some, slice_index, slice_index_or}
+use Rattle.std.specs.Prelude.{◌≡◌, ℕ, ⊤, ◌⊎◌, List, [], ◌∷◌, ◌++◌, Some, slice_index, slice_index_or}
 use Rattle.sl_model.specs.State.{State}
 use Rattle.rec_format.specs.declared.recording.Recording.{Recording}
 use Rattle.rec_format.specs.Recorded.{recorded_state}

@@ -5,6 +5,7 @@ ghost use Rattle.sl_base.specs.Refusals.{Tells};
 ghost use Rattle.call_log.specs.declared.breaks.Break.{Break as FirstBreak};
 ghost use Rattle.tracer_lang.specs.declared.record.Record.{Record as Left};
 ghost use Rattle.epoch_run.specs.EpochLaws.{epochs_of};
+ghost use Rattle.epoch_run.specs.LastLogs.{LogAfter};
 ghost use Rattle.epoch_run.specs.Plans.{posted, value_in, size_in, CanTrace};
 
 use crate::plan::{Plan, Worker};
@@ -39,7 +40,8 @@ pub(crate) fn posted(
 
 /// Runs epoch `k` of a plan from the recorded state of its first checkpoint, whatever the worker
 /// ran before, and gives its post. It breaks exactly where the epoch does, and is never `Skipped`.
-/// The steps that are counted are instructions of the program.
+/// The steps that are counted are instructions of the program. After records were left, the last
+/// log of the worker's bank is that of the last of them.
 ///
 /// # Errors
 ///
@@ -58,6 +60,8 @@ pub fn run_epoch<L: Ledger>(
         post.value ≡ posted plan.now.kinds (value_in plan.now k)) }
     ensures steps { steps.new ≤ steps.old + size_in plan.now k }
     ensures bank { CanTrace plan.now worker.new }
+    ensures last { IfOk result (λ post.
+        LogAfter plan.now k post.value worker.new.bank.last_log_len) }
 {
     let places = plan.cutting.places();
     let a = places[k as usize];

@@ -2,9 +2,11 @@
 
 ghost use Rattle.std.specs.Prelude.{◌≡◌, ℕ, ◌+◌, ◌<◌, ◌≤◌, None, Some, length, slice_get, IfOk, OnOk};
 ghost use Rattle.sl_base.specs.Refusals.{Tells};
+ghost use Rattle.tracer_lang.specs.Script.{tree_of};
 ghost use Rattle.rec_format.specs.Recorded.{end_place, recorded_state};
 ghost use Rattle.checkpoints.specs.RecordedRun.{opened_of};
 ghost use Rattle.epoch_run.specs.Epochs.{epoch_size, epoch_value};
+ghost use Rattle.epoch_run.specs.LastLogs.{TellsLast, LogAfter};
 ghost use Rattle.epoch_run.specs.Plans.{tracers_of, state_in, posted, value_in, values_of, size_in, CanTrace};
 ghost use Rattle.epoch_run.specs.EpochLaws.{epochs_of};
 ghost use Rattle.epoch_run.specs.Standings.{StandsIn, place_before_end};
@@ -79,6 +81,10 @@ fn run_standing<L: Ledger>(
         Tells result (epoch_value plan.now.checkpoints.rec opened (tracers_of plan.now) a b) }
     ensures steps { steps.new ≤ steps.old + epoch_size plan.now.checkpoints.rec a b }
     ensures stands { StandsIn plan.now standing.new }
+    ensures last { let opened = opened_of plan.now.checkpoints in
+        let first = recorded_state plan.now.checkpoints.rec opened a in
+        IfOk result (λ records. TellsLast plan.now.checkpoints.rec
+        (tree_of plan.now.tracers.script) first records standing.new.worker.bank.last_log_len) }
 {
     let stood = stand_at(plan, a, standing);
     standing.at = None;
@@ -102,6 +108,8 @@ fn run_epoch_standing<L: Ledger>(
     ensures value { IfOk result (λ post.
         post.value ≡ posted plan.now.kinds (value_in plan.now k)) }
     ensures stands { StandsIn plan.now standing.new }
+    ensures last { IfOk result (λ post.
+        LogAfter plan.now k post.value standing.new.worker.bank.last_log_len) }
     ensures steps { steps.new ≤ steps.old + size_in plan.now k }
 {
     let places = plan.cutting.places();
@@ -134,6 +142,8 @@ pub fn run_next<L: Ledger>(
     ensures epoch { IfOk result (λ post. post.epoch ≡ k) }
     ensures value { IfOk result (λ post. slice_get (values_of plan.now) k ≡ Some post.value) }
     ensures stands { StandsIn plan.now standing.new }
+    ensures last { IfOk result (λ post.
+        LogAfter plan.now k post.value standing.new.worker.bank.last_log_len) }
     ensures steps { steps.new ≤ steps.old + size_in plan.now k }
 {
     run_epoch_standing(alloc, plan, k, standing, steps)

@@ -1,8 +1,12 @@
-use Rattle.std.proofs.Common.{◌+◌, arith}
+use Rattle.std.proofs.Common.{◌+◌, List, sym, subst, arith}
 use Rattle.std.proofs.lemmas.Result.{err_from_is_err_and}
 use Rattle.checkpoints.specs.RecordedRun.{opened_of}
-use Rattle.epoch_run.specs.Plans.{tracers_of}
-use Rattle.epoch_run.proofs.SoFar.{goes_further, stops_there, more_steps, within_size}
+use Rattle.epoch_run.specs.Plans.{tracers_of, state_in}
+use Rattle.tracer_lang.specs.Script.{tree_of}
+use Rattle.tracer_lang.specs.declared.record.Record.{Record}
+use Rattle.epoch_run.specs.LastLogs.{TellsLast, IsLogged}
+use Rattle.epoch_run.proofs.LastLogs.{logged-first}
+use Rattle.epoch_run.proofs.SoFar.{IsSoFar, starts, goes_further, stops_there, more_steps, within_size}
 use Rattle.epoch_run.proofs.running.run_on.Goals as goal
 
 pub returns-in_err-run_segment-clause-steps : goal.returns-in_err-run_segment-clause-steps
@@ -31,5 +35,30 @@ loop-j-preserved g c =
       state = c.in_ok-run_segment.ensures.state;
       from = omega (arith, kept.from);
       bank = c.run_segment.ensures.bank;
+      logged = c.in_ok-run_segment.ensures.last (state_in c.args.worker.now) kept.logged;
       steps = more_steps plan.checkpoints.rec c.args.a c.loop-j.j _ _ _ plan.checkpoints.is_value (omega arith) kept.steps c.run_segment.ensures.steps;
     }
+
+pub loop-j-init : goal.loop-j-init
+loop-j-init g c =
+    let plan = c.args.plan.now in
+    let rec = plan.checkpoints.rec in
+    let opened = opened_of plan.checkpoints in
+    let script = tree_of plan.tracers.script in
+    let first = state_in c.args.worker.now in
+    let entries = c.args.worker.now.bank.last_log_len in
+    record {
+      so_far = subst (IsSoFar rec opened (tracers_of plan) c.args.a c.args.a) (sym c.new-records.ensures.items) (starts rec opened (tracers_of plan) c.args.a);
+      state = λ below. c.requires.at;
+      from = omega arith;
+      bank = c.requires.bank;
+      logged = subst (λ (left : List Record). IsLogged rec script first first left entries) (sym c.new-records.ensures.items) (logged-first rec script first entries);
+      steps = omega arith;
+    }
+
+pub returns-clause-last : goal.returns-clause-last
+returns-clause-last g c =
+    let plan = c.args.plan.now in
+    let left = c.loop-j.records.items in
+    subst (λ (records : List Record). TellsLast plan.checkpoints.rec (tree_of plan.tracers.script) (state_in c.args.worker.now) records c.loop-j.worker.bank.last_log_len)
+    (sym c.from_vec.ensures) c.loop-j.invariant.logged.last

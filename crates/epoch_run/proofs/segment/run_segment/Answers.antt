@@ -6,6 +6,8 @@ use Rattle.std.proofs.lemmas.Result.{err_from_is_err_and}
 use Rattle.checkpoints.specs.RecordedRun.{opened_of}
 use Rattle.epoch_run.specs.Plans.{tracers_of, state_in}
 use Rattle.epoch_run.proofs.OneSegment.{of_plan, starts_below, starts_fitting, segment_steps, segment_stops, segment_closes, segment_records, segment_state}
+use Rattle.tracer_lang.specs.Script.{tree_of}
+use Rattle.epoch_run.proofs.LastLogs.{logged-fired, logged-at}
 use Rattle.epoch_run.proofs.Stretch.{same_state}
 use Rattle.epoch_run.proofs.Closing.{closes-running}
 use Rattle.epoch_run.proofs.segment.run_segment.Goals as goal
@@ -95,3 +97,16 @@ pub fire_at_checkpoint-requires-clause-running : goal.fire_at_checkpoint-require
 fire_at_checkpoint-requires-clause-running g c =
     let plan = c.args.plan.now in
     closes-running plan.checkpoints.rec (c.args.j + 1) (state_in c.run_to.new.worker) _ (sym c.in_default.ensures)
+
+pub returns-clause-last : goal.returns-clause-last
+returns-clause-last g c = λ first logged.
+    let plan = c.args.plan.now in
+    let rec = plan.checkpoints.rec in
+    let script = tree_of plan.tracers.script in
+    let came = state_in c.run_to.new.worker in
+    let worker = c.fire_at_checkpoint.new.worker in
+    let cleared : state_in (record worker { f = c.clear_dirty.new.self }) ≡ state_in worker =
+    ap (λ (f : MarkedPages). state_in (record worker { f = f })) c.clear_dirty.ensures in
+    let same = cleared ∙ same_state worker c.run_to.new.worker c.fire_at_checkpoint.ensures.machine c.fire_at_checkpoint.ensures.memory in
+    logged-at rec script first came (state_in (record worker { f = c.clear_dirty.new.self })) _ _ same
+    (logged-fired rec script first came _ _ _ _ c.in_ok-fire_at_checkpoint.ensures.last (c.in_ok-run_to.ensures.last first logged))

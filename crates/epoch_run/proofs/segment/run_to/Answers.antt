@@ -9,6 +9,8 @@ use Rattle.replay.specs.Run.{Goes, onward}
 use Rattle.replay.proofs.Calls.{HasCalls-value}
 use Rattle.epoch_run.specs.Plans.{tracers_of, state_in}
 use Rattle.epoch_run.specs.Segments.{IsUnderWay}
+use Rattle.tracer_lang.specs.Script.{tree_of}
+use Rattle.epoch_run.proofs.LastLogs.{logged-fired, logged-next}
 use Rattle.epoch_run.proofs.Stretch.{goes_on_at, breaks_off, goes-running, same_state}
 use Rattle.epoch_run.proofs.segment.run_to.Goals as goal
 
@@ -29,6 +31,7 @@ pub loop-done-preserved : goal.loop-done-preserved
 loop-done-preserved g c =
     let kept = c.loop-done.invariant in
     let rec = c.args.plan.now.checkpoints.rec in
+    let script = tree_of c.args.plan.now.tracers.script in
     let old = c.loop-done.worker in
     let worker = c.fire.new.worker in
     let same = same_state worker old c.fire.ensures.machine c.fire.ensures.memory in
@@ -41,6 +44,9 @@ loop-done-preserved g c =
       from = omega (arith, kept.from);
       marks = MarksGoOn-then true _ _ _ _ _ _ kept.marks (subst (λ (f : MarkedPages). MarksGoOn true f.pages f.dirty c.advance_one.new.f.pages c.advance_one.new.f.dirty) c.fire.ensures.memory c.in_default.ensures.marks);
       bank = c.fire.ensures.bank;
+      last = λ first logged.
+          logged-next rec script first (state_in old) (state_of c.advance_one.new.m c.advance_one.new.f.pages) _ _ goes
+          (logged-fired rec script first (state_in old) _ _ _ _ c.in_ok-fire.ensures.last (kept.last first logged));
       steps = omega (arith, kept.steps, c.in_default.ensures.counted);
     }
 

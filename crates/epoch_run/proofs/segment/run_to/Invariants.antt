@@ -1,6 +1,8 @@
 use Rattle.std.proofs.Common.{◌≡◌, ◌+◌, ◌-◌, ◌≤◌, true}
-use Rattle.sl_model.specs.State.{Fits}
+use Rattle.sl_model.specs.State.{State, Fits}
 use Rattle.sl_model.specs.Marks.{MarksGoOn}
+use Rattle.tracer_lang.specs.Script.{tree_of}
+use Rattle.epoch_run.specs.LastLogs.{IsLogged}
 use Rattle.epoch_run.specs.Segments.{IsUnderWay}
 use Rattle.epoch_run.specs.Plans.{tracers_of, state_in, CanTrace}
 use Rattle.epoch_run.proofs.segment.run_to.Given as goal
@@ -13,5 +15,6 @@ invariant-loop-done g l = record {
   from : l.fn.worker.m.count ≤ l.done;
   marks : MarksGoOn true l.fn.worker.f.pages l.fn.worker.f.dirty l.worker.f.pages l.worker.f.dirty;
   bank : CanTrace l.plan l.worker;
+  last : (first : State) → IsLogged l.plan.checkpoints.rec (tree_of l.plan.tracers.script) first (state_in l.fn.worker) l.fn.records.items l.fn.worker.bank.last_log_len → IsLogged l.plan.checkpoints.rec (tree_of l.plan.tracers.script) first (state_in l.worker) l.records.items l.worker.bank.last_log_len;
   steps : l.steps + l.fn.worker.m.count ≤ l.fn.steps + l.done;
 }
