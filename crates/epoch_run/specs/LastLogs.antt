@@ -13,6 +13,8 @@ use Rattle.checkpoints.specs.RecordedRun.{opened_of}
 use Rattle.epoch_core.specs.declared.post.PostValue.{PostValue}
 use Rattle.epoch_core.specs.declared.post.PostValue.TheVariants.{Ran, Broke, Skipped}
 use Rattle.epoch_run.specs.declared.plan.Plan.{Plan}
+use Rattle.epoch_run.specs.declared.plan.Worker.{Worker}
+use Rattle.epoch_run.specs.Plans.{state_in}
 
 -- how many stores the tracer of a tracepoint does on a copy of a state
 abbrev pub stores_of : ScriptTree → ℕ → State → ℕ
@@ -59,11 +61,28 @@ pub record IsLogged (rec : Recording) (script : ScriptTree) (first s : State)
   pub on_run : IsOnRun rec first s
   pub last : TellsLast rec script first left entries
 
+-- ---- the same of a worker that runs a plan
+
+abbrev pub FiredIn : Plan → Worker → Worker → List Record → List Record → Type 0
+FiredIn plan old new left left' =
+    FiredAt (tree_of plan.tracers.script) (state_in old) left left'
+    old.bank.last_log_len new.bank.last_log_len
+
+abbrev pub IsLoggedIn : Plan → State → Worker → List Record → Type 0
+IsLoggedIn plan first worker left =
+    IsLogged plan.checkpoints.rec (tree_of plan.tracers.script) first (state_in worker) left
+    worker.bank.last_log_len
+
+abbrev pub TellsLastIn : Plan → State → List Record → ℕ → Type 0
+TellsLastIn plan = TellsLast plan.checkpoints.rec (tree_of plan.tracers.script)
+
+-- the recorded state of a plan's checkpoint
+abbrev pub recorded_in : Plan → ℕ → State
+recorded_in plan = recorded_state plan.checkpoints.rec (opened_of plan.checkpoints)
+
 -- the log after an epoch of a plan, where it ran
 abbrev pub LogAfter : Plan → ℕ → PostValue → ℕ → Type 0
 LogAfter plan k (Ran records parts) entries =
-    TellsLast plan.checkpoints.rec (tree_of plan.tracers.script)
-    (recorded_state plan.checkpoints.rec (opened_of plan.checkpoints) (slice_index plan.cutting k))
-    records entries
+    TellsLastIn plan (recorded_in plan (slice_index plan.cutting k)) records entries
 LogAfter plan k (Broke broken) entries = ⊤
 LogAfter plan k (Skipped below) entries = ⊤

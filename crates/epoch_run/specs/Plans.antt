@@ -1,5 +1,5 @@
 -- What the epochs of a plan come to.
-use Rattle.std.specs.Prelude.{ℕ, ◌+◌, List, map, Result, Ok, Err, slice_index, slice_index_or, All}
+use Rattle.std.specs.Prelude.{◌≡◌, ℕ, ◌+◌, List, map, Result, Ok, Err, slice_index, slice_index_or, All}
 use Rattle.std.specs.List.{range_with_len}
 use Rattle.std.proofs.Common.{refl}
 use Rattle.std.proofs.lemmas.List.Elements.{All-map}
@@ -33,6 +33,12 @@ state_in worker = state_of worker.m worker.f.pages
 -- a worker can run the tracers of a plan: its bank is made from their code
 abbrev pub CanTrace : Plan → Worker → Type 0
 CanTrace plan worker = IsMadeFrom plan.tracers.code.words worker.bank
+
+-- tracers alone ran: machine and memory are as before, and the worker can run tracers again
+pub record OnlyTraced (plan : Plan) (old new : Worker) : Type 0 where
+  pub machine : new.m ≡ old.m
+  pub memory : new.f ≡ old.f
+  pub bank : CanTrace plan new
 
 -- what epoch k of a plan comes to
 unfoldable pub value_in : Plan → ℕ → Result (List Record) Break

@@ -9,8 +9,8 @@ ghost use Rattle.rec_format.specs.Recorded.{end_place};
 ghost use Rattle.epoch_run.specs.Records.{at_end};
 ghost use Rattle.epoch_run.specs.Epochs.{closing_records};
 ghost use Rattle.epoch_run.specs.Firings.{RunsAtEnd};
-ghost use Rattle.epoch_run.specs.LastLogs.{stores_of, FiredAt};
-ghost use Rattle.epoch_run.specs.Plans.{tracers_of, state_in, CanTrace};
+ghost use Rattle.epoch_run.specs.LastLogs.{stores_of, FiredIn};
+ghost use Rattle.epoch_run.specs.Plans.{tracers_of, state_in, CanTrace, OnlyTraced};
 
 use crate::plan::{Plan, Worker};
 use call_log::End;
@@ -35,9 +35,7 @@ fn run_tracer<L: Ledger>(plan: &Plan, worker: &mut Worker, point: u32, blank: Bl
         ≡ record_of (tree_of plan.now.tracers.script) point (state_in worker.old) }
     ensures stores { worker.new.bank.last_log_len
         ≡ stores_of (tree_of plan.now.tracers.script) point (state_in worker.old) }
-    ensures machine { worker.new.m ≡ worker.old.m }
-    ensures memory { worker.new.f ≡ worker.old.f }
-    ensures bank { CanTrace plan.now worker.new }
+    ensures only { OnlyTraced plan.now worker.old worker.new }
 {
     standing_code_is_sound();
     let mut steps = Steps::<L>::new(blank);
@@ -61,12 +59,9 @@ fn run_fired(
     requires bank { CanTrace plan.now worker.old }
     ensures records { let left = tracers_of plan.now (state_in worker.old) in
         OnOk result (records.new.items ≡ records.old.items ++ left) }
-    ensures last { OnOk result (FiredAt (tree_of plan.now.tracers.script) (state_in worker.old)
-        records.old.items records.new.items
-        worker.old.bank.last_log_len worker.new.bank.last_log_len) }
-    ensures machine { worker.new.m ≡ worker.old.m }
-    ensures memory { worker.new.f ≡ worker.old.f }
-    ensures bank { CanTrace plan.now worker.new }
+    ensures last { OnOk result
+        (FiredIn plan.now worker.old worker.new records.old.items records.new.items) }
+    ensures only { OnlyTraced plan.now worker.old worker.new }
 {
     for point in fired.as_slice() {
         run_tracer::<Brand>(plan, worker, *point, Blank::new(1));
@@ -89,12 +84,9 @@ pub fn fire(
     ensures records { let left = tracers_of plan.now (state_in worker.old) in
         worker.old.m.status ≡ RunState.Running
         → OnOk result (records.new.items ≡ records.old.items ++ left) }
-    ensures last { OnOk result (FiredAt (tree_of plan.now.tracers.script) (state_in worker.old)
-        records.old.items records.new.items
-        worker.old.bank.last_log_len worker.new.bank.last_log_len) }
-    ensures machine { worker.new.m ≡ worker.old.m }
-    ensures memory { worker.new.f ≡ worker.old.f }
-    ensures bank { CanTrace plan.now worker.new }
+    ensures last { OnOk result
+        (FiredIn plan.now worker.old worker.new records.old.items records.new.items) }
+    ensures only { OnlyTraced plan.now worker.old worker.new }
 {
     plan.points.fires(&worker.m, &worker.f, fired);
     if fired.is_empty() || worker.m.status != RunState::Running {
@@ -116,12 +108,9 @@ fn fire_at_end(
     ensures records { let end = plan.now.checkpoints.rec.end in
         let left = at_end (tracers_of plan.now) end (state_in worker.old) in
         OnOk result (records.new.items ≡ records.old.items ++ left) }
-    ensures last { OnOk result (FiredAt (tree_of plan.now.tracers.script) (state_in worker.old)
-        records.old.items records.new.items
-        worker.old.bank.last_log_len worker.new.bank.last_log_len) }
-    ensures machine { worker.new.m ≡ worker.old.m }
-    ensures memory { worker.new.f ≡ worker.old.f }
-    ensures bank { CanTrace plan.now worker.new }
+    ensures last { OnOk result
+        (FiredIn plan.now worker.old worker.new records.old.items records.new.items) }
+    ensures only { OnlyTraced plan.now worker.old worker.new }
 {
     match plan.checkpoints.rec.end {
         End::Trapped(_) => {
@@ -147,12 +136,9 @@ pub fn fire_at_checkpoint(
     ensures records { let rec = plan.now.checkpoints.rec in
         let left = closing_records rec (tracers_of plan.now) k (state_in worker.old) in
         OnOk result (records.new.items ≡ records.old.items ++ left) }
-    ensures last { OnOk result (FiredAt (tree_of plan.now.tracers.script) (state_in worker.old)
-        records.old.items records.new.items
-        worker.old.bank.last_log_len worker.new.bank.last_log_len) }
-    ensures machine { worker.new.m ≡ worker.old.m }
-    ensures memory { worker.new.f ≡ worker.old.f }
-    ensures bank { CanTrace plan.now worker.new }
+    ensures last { OnOk result
+        (FiredIn plan.now worker.old worker.new records.old.items records.new.items) }
+    ensures only { OnlyTraced plan.now worker.old worker.new }
 {
     if k == plan.checkpoints.segments() {
         return fire_at_end(alloc, plan, worker, records);

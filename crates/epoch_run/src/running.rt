@@ -2,10 +2,9 @@
 
 ghost use Rattle.std.specs.Prelude.{◌≡◌, ◌+◌, ◌<◌, ◌≤◌, IfOk, OnOk};
 ghost use Rattle.sl_base.specs.Refusals.{Tells};
-ghost use Rattle.tracer_lang.specs.Script.{tree_of};
 ghost use Rattle.rec_format.specs.Recorded.{end_place, recorded_state};
 ghost use Rattle.checkpoints.specs.RecordedRun.{opened_of};
-ghost use Rattle.epoch_run.specs.LastLogs.{TellsLast};
+ghost use Rattle.epoch_run.specs.LastLogs.{TellsLastIn, recorded_in};
 ghost use Rattle.epoch_run.specs.Epochs.{epoch_size, epoch_value};
 ghost use Rattle.epoch_run.specs.Plans.{tracers_of, state_in, CanTrace};
 
@@ -41,9 +40,8 @@ pub fn run_on<L: Ledger>(
         Tells result (epoch_value plan.now.checkpoints.rec opened (tracers_of plan.now) a b) }
     ensures steps { steps.new ≤ steps.old + epoch_size plan.now.checkpoints.rec a b }
     ensures bank { CanTrace plan.now worker.new }
-    ensures last { IfOk result (λ records. TellsLast plan.now.checkpoints.rec
-        (tree_of plan.now.tracers.script) (state_in worker.old)
-        records worker.new.bank.last_log_len) }
+    ensures last { IfOk result (λ records.
+        TellsLastIn plan.now (state_in worker.old) records worker.new.bank.last_log_len) }
     ensures state { let rec = plan.now.checkpoints.rec in
         let next = recorded_state rec (opened_of plan.now.checkpoints) b in
         OnOk result (b < end_place rec → state_in worker.new ≡ next) }
@@ -77,10 +75,8 @@ pub fn run_between<L: Ledger>(
         Tells result (epoch_value plan.now.checkpoints.rec opened (tracers_of plan.now) a b) }
     ensures steps { steps.new ≤ steps.old + epoch_size plan.now.checkpoints.rec a b }
     ensures bank { CanTrace plan.now worker.new }
-    ensures last { let opened = opened_of plan.now.checkpoints in
-        let first = recorded_state plan.now.checkpoints.rec opened a in
-        IfOk result (λ records. TellsLast plan.now.checkpoints.rec
-        (tree_of plan.now.tracers.script) first records worker.new.bank.last_log_len) }
+    ensures last { IfOk result (λ records.
+        TellsLastIn plan.now (recorded_in plan.now a) records worker.new.bank.last_log_len) }
 {
     plan.checkpoints.state_at(a, &mut worker.m, &mut worker.f)?;
     run_on(alloc, plan, a, b, worker, steps)

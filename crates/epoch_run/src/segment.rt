@@ -3,11 +3,10 @@
 ghost use Rattle.std.specs.Prelude.{◌≡◌, ◌+◌, ◌-◌, ◌<◌, ◌≤◌, ◌^◌, ◌++◌, OnOk, true};
 ghost use Rattle.sl_model.specs.State.{State, Fits};
 ghost use Rattle.sl_model.specs.Marks.{MarksGoOn};
-ghost use Rattle.tracer_lang.specs.Script.{tree_of};
 ghost use Rattle.rec_format.specs.Recorded.{end_place, recorded_state};
 ghost use Rattle.checkpoints.specs.RecordedRun.{opened_of};
 ghost use Rattle.epoch_run.specs.Epochs.{epoch_size, epoch_break, epoch_records};
-ghost use Rattle.epoch_run.specs.LastLogs.{IsLogged};
+ghost use Rattle.epoch_run.specs.LastLogs.{IsLoggedIn};
 ghost use Rattle.epoch_run.specs.Segments.{stopped_at, CameTo, TellsBreak};
 ghost use Rattle.epoch_run.specs.Plans.{tracers_of, state_in, CanTrace};
 
@@ -60,12 +59,8 @@ fn run_to<L: Ledger>(
         worker.new.f.pages worker.new.f.dirty) }
     ensures steps { steps.new + worker.old.m.count ≤ steps.old + upto }
     ensures bank { CanTrace plan.now worker.new }
-    ensures last { let script = tree_of plan.now.tracers.script in
-        let rec = plan.now.checkpoints.rec in
-        (first : State) → IsLogged rec script first (state_in worker.old)
-        records.old.items worker.old.bank.last_log_len
-        → OnOk result (IsLogged rec script first (state_in worker.new)
-        records.new.items worker.new.bank.last_log_len) }
+    ensures last { (first : State) → IsLoggedIn plan.now first worker.old records.old.items
+        → OnOk result (IsLoggedIn plan.now first worker.new records.new.items) }
 {
     let mut fired = Fired::new();
     for done in worker.m.count..upto {
@@ -108,12 +103,8 @@ pub fn run_segment<L: Ledger>(
         OnOk result (j + 1 < end_place rec → state_in worker.new ≡ next) }
     ensures steps { steps.new ≤ steps.old + epoch_size plan.now.checkpoints.rec j (j + 1) }
     ensures bank { CanTrace plan.now worker.new }
-    ensures last { let script = tree_of plan.now.tracers.script in
-        let rec = plan.now.checkpoints.rec in
-        (first : State) → IsLogged rec script first (state_in worker.old)
-        records.old.items worker.old.bank.last_log_len
-        → OnOk result (IsLogged rec script first (state_in worker.new)
-        records.new.items worker.new.bank.last_log_len) }
+    ensures last { (first : State) → IsLoggedIn plan.now first worker.old records.old.items
+        → OnOk result (IsLoggedIn plan.now first worker.new records.new.items) }
 {
     let next = j + 1;
     let upto = recorded_count(plan, next);

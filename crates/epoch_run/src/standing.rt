@@ -2,11 +2,10 @@
 
 ghost use Rattle.std.specs.Prelude.{◌≡◌, ℕ, ◌+◌, ◌<◌, ◌≤◌, None, Some, length, slice_get, IfOk, OnOk};
 ghost use Rattle.sl_base.specs.Refusals.{Tells};
-ghost use Rattle.tracer_lang.specs.Script.{tree_of};
 ghost use Rattle.rec_format.specs.Recorded.{end_place, recorded_state};
 ghost use Rattle.checkpoints.specs.RecordedRun.{opened_of};
 ghost use Rattle.epoch_run.specs.Epochs.{epoch_size, epoch_value};
-ghost use Rattle.epoch_run.specs.LastLogs.{TellsLast, LogAfter};
+ghost use Rattle.epoch_run.specs.LastLogs.{TellsLastIn, LogAfter, recorded_in};
 ghost use Rattle.epoch_run.specs.Plans.{tracers_of, state_in, posted, value_in, values_of, size_in, CanTrace};
 ghost use Rattle.epoch_run.specs.EpochLaws.{epochs_of};
 ghost use Rattle.epoch_run.specs.Standings.{StandsIn, place_before_end};
@@ -81,10 +80,8 @@ fn run_standing<L: Ledger>(
         Tells result (epoch_value plan.now.checkpoints.rec opened (tracers_of plan.now) a b) }
     ensures steps { steps.new ≤ steps.old + epoch_size plan.now.checkpoints.rec a b }
     ensures stands { StandsIn plan.now standing.new }
-    ensures last { let opened = opened_of plan.now.checkpoints in
-        let first = recorded_state plan.now.checkpoints.rec opened a in
-        IfOk result (λ records. TellsLast plan.now.checkpoints.rec
-        (tree_of plan.now.tracers.script) first records standing.new.worker.bank.last_log_len) }
+    ensures last { let entries = standing.new.worker.bank.last_log_len in
+        IfOk result (λ records. TellsLastIn plan.now (recorded_in plan.now a) records entries) }
 {
     let stood = stand_at(plan, a, standing);
     standing.at = None;

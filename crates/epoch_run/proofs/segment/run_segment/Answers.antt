@@ -80,7 +80,7 @@ returns-clause-state g c =
     let worker = c.fire_at_checkpoint.new.worker in
     let cleared : state_in (record worker { f = c.clear_dirty.new.self }) ≡ state_in worker =
     ap (λ (f : MarkedPages). state_in (record worker { f = f })) c.clear_dirty.ensures in
-    let same = cleared ∙ same_state worker c.run_to.new.worker c.fire_at_checkpoint.ensures.machine c.fire_at_checkpoint.ensures.memory in
+    let same = cleared ∙ same_state worker c.run_to.new.worker c.fire_at_checkpoint.ensures.only.machine c.fire_at_checkpoint.ensures.only.memory in
     λ inner. same ∙ segment_state plan.checkpoints.rec (opened_of plan.checkpoints) c.args.j (state_in c.args.worker.now) c.recorded_count-upto.result is (tracers_of plan) (state_in c.run_to.new.worker) c.args.records.now.items c.run_to.new.records.items c.in_ok-run_to.ensures.came inner (sym (c.in_default.ensures ∙ segment_closes plan.checkpoints.rec (opened_of plan.checkpoints) c.args.j (state_in c.args.worker.now) c.recorded_count-upto.result is (tracers_of plan) (state_in c.run_to.new.worker) c.args.records.now.items c.run_to.new.records.items c.in_ok-run_to.ensures.came))
 
 pub break_at_checkpoint-requires-clause-holds : goal.break_at_checkpoint-requires-clause-holds
@@ -107,6 +107,6 @@ returns-clause-last g c = λ first logged.
     let worker = c.fire_at_checkpoint.new.worker in
     let cleared : state_in (record worker { f = c.clear_dirty.new.self }) ≡ state_in worker =
     ap (λ (f : MarkedPages). state_in (record worker { f = f })) c.clear_dirty.ensures in
-    let same = cleared ∙ same_state worker c.run_to.new.worker c.fire_at_checkpoint.ensures.machine c.fire_at_checkpoint.ensures.memory in
+    let same = cleared ∙ same_state worker c.run_to.new.worker c.fire_at_checkpoint.ensures.only.machine c.fire_at_checkpoint.ensures.only.memory in
     logged-at rec script first came (state_in (record worker { f = c.clear_dirty.new.self })) _ _ same
     (logged-fired rec script first came _ _ _ _ c.in_ok-fire_at_checkpoint.ensures.last (c.in_ok-run_to.ensures.last first logged))
