@@ -1,6 +1,9 @@
 //! Scripts that are compiled and run, with the outcome and the number of stores of each worked by
 //! hand. Words and outcome are those that the tracer leaves on a copy, and memory is as before.
 
+mod generated;
+mod in_place;
+mod outcomes;
 mod running;
 
 use running::{left_by_code, left_on_copy};
@@ -21,9 +24,9 @@ fn expect(
     let left = left_by_code(alloc, text)?;
     match (due, left) {
         (Some(due), Some(left)) => {
-            assert_eq!(rt; due.0, outcome, "{text}");
+            assert_eq!(rt; due.outcome, outcome, "{text}");
             assert_eq!(rt; left.outcome, outcome, "{text}");
-            assert_eq!(rt; left.words.as_slice(), due.1.as_slice(), "{text}");
+            assert_eq!(rt; left.words.as_slice(), due.words.as_slice(), "{text}");
             assert_eq!(rt; left.stores, stores, "{text}");
             assert!(rt; left.restored, "{text}");
         }

@@ -1,6 +1,6 @@
 //! One script, compiled and on a copy.
 
-ghost use Rattle.std.specs.Prelude.{◌≡◌, ◌<◌};
+ghost use Rattle.std.specs.Prelude.{◌≡◌, ◌<◌, IfOk};
 
 use page_frames::Frames;
 use rv_machine::{Machine, Outcome, step};
@@ -9,7 +9,7 @@ use sl_model::{Bus, CODE_START, Layout, MOST_ENTRIES, RunState};
 use std::alloc::Global;
 use tracer_code::{TracerCode, outcome_of};
 use tracer_compile::compile;
-use tracer_lang::{Script, TracerEnd};
+use tracer_lang::{Record, Script, TracerEnd};
 use tracer_mean::run_on_copy;
 use tracer_read::read_script;
 use undo_bank::{Bank, BankBus};
@@ -29,7 +29,7 @@ pub struct Left {
 }
 
 /// The script of a text.
-fn script_of(alloc: Global, text: &str) -> Result<Option<Script>, Memory> {
+pub fn script_of(alloc: Global, text: &str) -> Result<Option<Script>, Memory> {
     match read_script(alloc, text.as_bytes(), &[]) {
         Ok(script) => Ok(Some(script)),
         Err(Refused::Fault(_fault)) => Ok(None),
@@ -37,14 +37,19 @@ fn script_of(alloc: Global, text: &str) -> Result<Option<Script>, Memory> {
     }
 }
 
-/// A machine at 0x10014 with three pages, the last of them the highest of a program.
-fn machine(alloc: Global) -> Result<(Machine, Frames), Memory> {
+/// A machine at 0x10014 with three pages, the last of them the highest of a program. That one and
+/// the page at 0x12000 are dirty, in this order, and the page at 0x11000 is not.
+pub fn machine(alloc: Global) -> Result<(Machine, Frames), Memory>
+    ensures { IfOk result (λ made. made.0.status ≡ RunState.Running) }
+{
     let mut frames = Frames::new(alloc)?;
     frames.map_page(0x11)?;
     frames.map_page(0x12)?;
     frames.map_page(0xBFFFE)?;
     frames.store(0x11004, 4, 0x8081_8283);
     frames.store(0x11ffc, 4, 0xf0f1_f2f3);
+    frames.clear_dirty();
+    frames.store(0xbfff_effc, 4, 0);
     frames.store(0x12000, 4, 0xa0a1_a2a3);
     let mut x = [0; 32];
     x[5] = 0xffff_fff6;
@@ -68,7 +73,7 @@ fn machine(alloc: Global) -> Result<(Machine, Frames), Memory> {
 }
 
 /// What the first tracer of a script leaves on a copy; `None` where there is none.
-pub fn left_on_copy(alloc: Global, text: &str) -> Result<Option<(TracerEnd, Vec<u32>)>, Memory> {
+pub fn left_on_copy(alloc: Global, text: &str) -> Result<Option<Record>, Memory> {
     let Some(script) = script_of(alloc, text)? else {
         return Ok(None);
     };
@@ -76,8 +81,7 @@ pub fn left_on_copy(alloc: Global, text: &str) -> Result<Option<(TracerEnd, Vec<
         return Ok(None);
     }
     let (m, f) = machine(alloc)?;
-    let record = run_on_copy(alloc, m, f, &script, 0)?;
-    Ok(Some((record.outcome, record.words.into_vec())))
+    Ok(Some(run_on_copy(alloc, m, f, &script, 0)?))
 }
 
 /// The words of a machine that a tracer reads.
@@ -139,7 +143,7 @@ fn run_to_end(m: &mut Machine, bank: &mut Bank, frames: &mut Frames, most: u64) 
 }
 
 /// Whether two memories hold the same in the pages that are mapped.
-fn are_alike(a: &Frames, b: &Frames) -> bool {
+pub fn are_alike(a: &Frames, b: &Frames) -> bool {
     PAGES.iter().all(|page| match (a.page(*page), b.page(*page)) {
         (Some(a), Some(b)) => a == b,
         _ => false,
