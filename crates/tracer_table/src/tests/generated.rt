@@ -12,7 +12,7 @@ use tracer_lang::Record;
 struct Rule {
     capital: char,
     forms: &'static [&'static str],
-    /// How many of the forms are short: these have no statement and no expression in them.
+    /// The first so many forms are short: they have no statement and no expression in them.
     short: usize,
 }
 
