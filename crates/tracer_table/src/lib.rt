@@ -1,4 +1,5 @@
-//! Tests alone: compiled tracers, run word by word over a bank, beside the same tracers on copies.
+//! Tests alone: compiled tracers, run word by word over a bank and in place, beside the same tracers
+//! on copies.
 #![tactic(auto)]
 
 #[cfg(test)]
