@@ -1,6 +1,6 @@
 //! A tracer that stores over one word three times, followed word by word, and in place.
 
-ghost use Rattle.std.specs.Prelude.{◌≡◌, ◌<◌, length};
+ghost use Rattle.std.specs.Prelude.{◌≡◌, ◌<◌, length, IfOk};
 ghost use Rattle.tracer_code.specs.Sound.{IsSound};
 ghost use Rattle.undo_bank.specs.Areas.{IsMadeFrom};
 
@@ -11,11 +11,12 @@ use page_frames::Frames;
 use rv_machine::{Machine, Outcome, step};
 use sl_base::{Blank, Brand, Ledger, Steps};
 use sl_model::{Bus, MOST_ENTRIES, RunState};
+use std::alloc::Global;
 use std::test::Fail;
 use tracer_code::outcomes::DONE;
 use tracer_code::{TracerCode, standing_code_is_sound};
 use tracer_compile::compile;
-use tracer_lang::TracerEnd;
+use tracer_lang::{Record, TracerEnd};
 use undo_bank::{Bank, BankBus};
 
 /// The tracer.
@@ -51,39 +52,70 @@ fn take_steps(m: &mut Machine, bank: &mut Bank, frames: &mut Frames, most: u64) 
     steps_on::<Brand>(m, bank, frames, most, Blank::new(1));
 }
 
-#[test]
-fn log_gives_the_word_back_at_every_step(rt: HostRuntime) -> Result<(), Fail> {
-    let Some(script) = script_of(rt.alloc(), STORES)? else {
+/// The code of the tracer.
+fn stores_code(alloc: Global) -> Result<TracerCode, Fail>
+    ensures { IfOk result IsSound }
+{
+    let Some(script) = script_of(alloc, STORES)? else {
         return Err(Fail::from("no script"));
     };
-    let code = compile(rt.alloc(), &script)?;
+    standing_code_is_sound();
+    Ok(compile(alloc, &script)?)
+}
+
+/// Where a run stands after some steps.
+#[derive(Clone, Copy)]
+struct Came {
+    steps: u64,
+    outcome: u32,
+    output: Option<u32>,
+    entries: u32,
+    /// The word at 0x11004, and what it is once the log is put back.
+    word: Option<u32>,
+    restored: Option<u32>,
+}
+
+/// Where the run of the first tracer of some code stands after so many steps, or as many as it has.
+fn came_to(alloc: Global, code: &TracerCode, most: u64) -> Result<Came, Fail> {
     let place = code.places.as_slice().first().copied().unwrap_or(0);
     if place > 0x00ff_ffff {
         return Err(Fail::from("no place"));
     }
-    let mut bank = Bank::new(rt.alloc(), code.words.as_slice())?;
-    let mut entries = 0;
+    let mut m = machine();
+    let mut f = memory(alloc)?;
+    let mut bank = Bank::new(alloc, code.words.as_slice())?;
+    bank.start(&copied_words(&m));
+    start_at(&mut m, place);
+    take_steps(&mut m, &mut bank, &mut f, most);
+    let entries = bank.log_len();
+    if entries > MOST_ENTRIES {
+        return Err(Fail::from("more entries than the log has"));
+    }
+    let (output, word) = (bank.out_word(0), f.load(0x11004, 4));
+    bank.undo_into(&mut f);
+    Ok(Came {
+        steps: m.count,
+        outcome: m.x[10],
+        output,
+        entries,
+        word,
+        restored: f.load(0x11004, 4),
+    })
+}
+
+#[test]
+fn log_gives_the_word_back_at_every_step(rt: HostRuntime) -> Result<(), Fail> {
+    let code = stores_code(rt.alloc())?;
     for most in 0..1000 {
-        let mut m = machine();
-        let mut f = memory(rt.alloc())?;
-        bank.start(&copied_words(&m));
-        start_at(&mut m, place);
-        take_steps(&mut m, &mut bank, &mut f, most);
-        if m.count < most {
-            let outcome = m.x[10];
-            assert_eq!(rt; outcome, DONE);
-            assert_eq!(rt; bank.out_len(), 1);
-            assert_eq!(rt; bank.out_word(0), Some(0xffff_1234));
-            assert_eq!(rt; f.load(0x11004, 4), Some(0xffff_1234));
-            assert_eq!(rt; entries, 3);
+        let came = came_to(rt.alloc(), &code, most)?;
+        assert_eq!(rt; came.restored, Some(0x0203_0400));
+        if came.steps < most {
+            assert_eq!(rt; came.outcome, DONE);
+            assert_eq!(rt; came.output, Some(0xffff_1234));
+            assert_eq!(rt; came.word, Some(0xffff_1234));
+            assert_eq!(rt; came.entries, 3);
             return Ok(());
         }
-        entries = bank.log_len();
-        if entries > MOST_ENTRIES {
-            return Err(Fail::from("more entries than the log has"));
-        }
-        bank.undo_into(&mut f);
-        assert_eq!(rt; f.load(0x11004, 4), Some(0x0203_0400));
     }
     Err(Fail::from("no end"))
 }
@@ -109,26 +141,46 @@ fn run_first<L: Ledger>(
     run_in_place(m, f, bank, code, 0, room, &mut steps);
 }
 
-#[test]
-fn stores_are_undone(rt: HostRuntime) -> Result<(), Fail> {
-    let Some(script) = script_of(rt.alloc(), STORES)? else {
-        return Err(Fail::from("no script"));
-    };
-    let code = compile(rt.alloc(), &script)?;
+/// What a tracer leaves in place.
+#[derive(Drop)]
+struct Left {
+    record: Record,
+    /// How many entries its log had.
+    logged: u32,
+    /// How many entries are left.
+    entries: u32,
+    /// The word at 0x11004.
+    word: Option<u32>,
+}
+
+/// What the first tracer of some code leaves in place.
+fn left_in_place(alloc: Global, code: &TracerCode) -> Result<Left, Fail>
+    requires { IsSound code.now }
+{
     if code.places.is_empty() {
         return Err(Fail::from("no place"));
     }
-    standing_code_is_sound();
     let mut m = machine();
-    let mut f = memory(rt.alloc())?;
-    let mut bank = Bank::new(rt.alloc(), code.words.as_slice())?;
-    let mut room = RecordRoom::new(rt.alloc())?;
-    run_first::<Brand>(&mut m, &mut f, &mut bank, &code, &mut room, Blank::new(1));
-    assert_eq!(rt; bank.last_log_len(), 3);
-    assert_eq!(rt; bank.log_len(), 0);
-    assert_eq!(rt; f.load(0x11004, 4), Some(0x0203_0400));
-    let record = room.to_record(rt.alloc())?;
-    assert_eq!(rt; record.outcome, TracerEnd::Done);
-    assert_eq!(rt; record.words.as_slice(), [0xffff_1234].as_slice());
+    let mut f = memory(alloc)?;
+    let mut bank = Bank::new(alloc, code.words.as_slice())?;
+    let mut room = RecordRoom::new(alloc)?;
+    run_first::<Brand>(&mut m, &mut f, &mut bank, code, &mut room, Blank::new(1));
+    Ok(Left {
+        record: room.to_record(alloc)?,
+        logged: bank.last_log_len(),
+        entries: bank.log_len(),
+        word: f.load(0x11004, 4),
+    })
+}
+
+#[test]
+fn stores_are_undone(rt: HostRuntime) -> Result<(), Fail> {
+    let code = stores_code(rt.alloc())?;
+    let left = left_in_place(rt.alloc(), &code)?;
+    assert_eq!(rt; left.logged, 3);
+    assert_eq!(rt; left.entries, 0);
+    assert_eq!(rt; left.word, Some(0x0203_0400));
+    assert_eq!(rt; left.record.outcome, TracerEnd::Done);
+    assert_eq!(rt; left.record.words.as_slice(), [0xffff_1234].as_slice());
     Ok(())
 }

@@ -1,0 +1,4 @@
+use Rattle.undo_isolation.proofs.tests.row.left_in_place.Given as goal
+
+abbrev pub ghosts-run_first : goal.ghosts-run_first
+ghosts-run_first a = record { name = a.blank.name; parts = a.blank.parts }
