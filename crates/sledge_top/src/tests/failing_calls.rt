@@ -2,9 +2,8 @@
 
 use super::recorded::{EXITS, store_with};
 use super::recordings::{recording, words};
-use super::running::words_of;
+use super::running::ended;
 use super::traces::EXITS as EXITS_RECORDING;
-use crate::sledge;
 use sl_base::{MemorySink, MemoryStore, MemoryWorld, NoGate, Sink, SinkFailed};
 use std::alloc::Global;
 use std::process::Abort;
@@ -68,6 +67,28 @@ struct Ending {
     text: String,
 }
 
+/// How many bytes a file has, or `-` where there is none.
+fn size_of(alloc: Global, file: Option<&[u8]>) -> Result<String, Fail> {
+    match file {
+        Some(bytes) => Ok(format!(in alloc; "{}", bytes.len())?),
+        None => Ok(String::from_str(alloc, "-")?),
+    }
+}
+
+/// The text of an ending.
+fn text_of(
+    alloc: Global,
+    number: u8,
+    written: usize,
+    put: Option<&[u8]>,
+    line: &[u8],
+) -> Result<String, Fail> {
+    let put = size_of(alloc, put)?;
+    let line = String::from_utf8(line.to_vec(alloc)?).map_err(|_| "no text")?;
+    let line = line.replace(alloc, "\n", "|")?;
+    Ok(format!(in alloc; "{number} {written} {put} [{line}]")?)
+}
+
 /// Runs a command while the calls of the store, of the first and of the second output that these
 /// words name fail.
 fn run<R: Threads + Sync>(
@@ -81,20 +102,13 @@ fn run<R: Threads + Sync>(
     let mut out = Narrow(MemorySink::new(alloc, 600, numbers_of(alloc, out)?)?);
     let mut err = MemorySink::new(alloc, 100, numbers_of(alloc, err)?)?;
     let mut world = MemoryWorld::new(Vec::new(alloc));
-    let words = words_of(alloc, words)?;
-    let status = sledge(
-        rt, alloc, &words, &mut store, &mut world, &mut out, &mut err, &NoGate,
-    );
-    let written = out.0.bytes().to_vec(alloc)?;
-    let put = match store.file("b") {
-        Some(bytes) => format!(in alloc; "{}", bytes.len())?,
-        None => String::from_str(alloc, "-")?,
-    };
-    let line = String::from_utf8(err.bytes().to_vec(alloc)?).map_err(|_| "no text")?;
-    let line = line.replace(alloc, "\n", "|")?;
+    let number = ended(
+        rt, alloc, words, &mut store, &mut world, &mut out, &mut err, &NoGate,
+    )?;
+    let written = out.0.bytes();
     Ok(Ending {
-        text: format!(in alloc; "{} {} {put} [{line}]", status.code(), written.len())?,
-        written,
+        text: text_of(alloc, number, written.len(), store.file("b"), err.bytes())?,
+        written: written.to_vec(alloc)?,
     })
 }
 

@@ -2,6 +2,7 @@
 
 use super::recordings::words;
 use super::running::told_over;
+use call_log::CallEntry;
 use rec_format::{Recording, read_recording};
 use sl_base::{MemoryStore, MemoryWorld, Reply, Seq};
 use std::alloc::Global;
@@ -82,20 +83,23 @@ replay a.rec => 0 end,exited,3,,0x0001000c,,0x00000005|\
 regs,x,,,,,x2=0x7fffffd0 x10=0x00000005 x17=0x0000005d|
 ";
 
+/// A store with two images, one that exits and one that traps.
+fn two_images(alloc: Global) -> Result<MemoryStore, Fail> {
+    let exits = words(alloc, EXITS)?;
+    let traps = words(alloc, "00500513 0")?;
+    store_with(alloc, &[("exits", &exits), ("traps", &traps)], &[])
+}
+
 #[test]
 fn ends(rt: HostRuntime) -> Result<(), Fail> {
     let alloc = rt.alloc();
-    let exits = words(alloc, EXITS)?;
-    let traps = words(alloc, "00500513 0")?;
-    let mut store = store_with(alloc, &[("exits", &exits), ("traps", &traps)], &[])?;
+    let mut store = two_images(alloc)?;
     let mut world = MemoryWorld::new(Vec::new(alloc));
     run_all(&rt, alloc, &mut store, &mut world, COMMANDS)?;
-    let first = bytes_of(alloc, &store, "r1.rec")?;
-    assert_eq!(rt; first.len(), 204);
-    assert!(rt; bytes_of(alloc, &store, "r4.rec")?.as_slice() == first.as_slice());
-    let second = bytes_of(alloc, &store, "r2.rec")?;
-    assert_eq!(rt; second.len(), 356);
-    assert!(rt; bytes_of(alloc, &store, "r3.rec")?.as_slice() == second.as_slice());
+    for (name, other, len) in [("r1.rec", "r4.rec", 204), ("r2.rec", "r3.rec", 356)] {
+        assert_eq!(rt; store.file(name).map(<[u8]>::len), Some(len), "{name}");
+        assert!(rt; store.file(name) == store.file(other), "{name}");
+    }
     Ok(())
 }
 
@@ -167,6 +171,22 @@ pub fn world_of_one(alloc: Global) -> Result<MemoryWorld, Fail> {
     Ok(MemoryWorld::new(vec![in alloc; reply]?))
 }
 
+/// Checks the calls of the program, with their results and the bytes that they wrote.
+fn check_calls(rt: &impl Abort, entries: &[CallEntry]) {
+    let calls: [(u32, u32, &[u8]); 4] = [
+        (80, 0xffff_ffda, &[]),
+        (214, 0x0001_2000, &[]),
+        (214, 0x0001_3000, &[]),
+        (64, 3, b"hi\n"),
+    ];
+    assert_eq!(rt; entries.len(), 4);
+    for (entry, (number, result, bytes)) in entries.iter().zip(calls) {
+        assert_eq!(rt; entry.call.number, number);
+        assert_eq!(rt; entry.result, result);
+        assert_eq!(rt; entry.bytes.as_slice(), bytes);
+    }
+}
+
 #[test]
 fn small_library(rt: HostRuntime) -> Result<(), Fail> {
     let alloc = rt.alloc();
@@ -176,18 +196,7 @@ fn small_library(rt: HostRuntime) -> Result<(), Fail> {
     let mut world = world_of_one(alloc)?;
     run_all(&rt, alloc, &mut store, &mut world, LIBRARY_COMMANDS)?;
     let rec = recording_in(alloc, &store, "p.rec")?;
-    let calls: [(u32, u32, &[u8]); 4] = [
-        (80, 0xffff_ffda, &[]),
-        (214, 0x0001_2000, &[]),
-        (214, 0x0001_3000, &[]),
-        (64, 3, b"hi\n"),
-    ];
-    assert_eq!(rt; rec.calls.len(), 4);
-    for (entry, (number, result, bytes)) in rec.calls.as_slice().iter().zip(calls) {
-        assert_eq!(rt; entry.call.number, number);
-        assert_eq!(rt; entry.result, result);
-        assert_eq!(rt; entry.bytes.as_slice(), bytes);
-    }
+    check_calls(&rt, rec.calls.as_slice());
     Ok(())
 }
 
@@ -255,6 +264,23 @@ record a b => 5 sledge: image broken at 36: Compressed|
 record a b --flat 7ff00000 => 5 sledge: image broken at 0: Overlap|
 ";
 
+/// Checks that the recording is refused with bytes of its checkpoints, which begin at a place,
+/// and of its end changed. Checkpoint 5 is the first that lists a page, and the bytes of the end
+/// stand behind the last.
+fn check_changed_recording<R: Threads + Sync + Abort>(
+    rt: &R,
+    alloc: Global,
+    bytes: &[u8],
+    first: usize,
+) -> Result<(), Fail> {
+    let listed = first.saturating_add(5 * 152 + 4 + 5);
+    let register = first.saturating_add(2 * 152 + 28);
+    let end = bytes.len().saturating_sub(156);
+    check_changed(rt, alloc, bytes, &[(listed, 5)], LISTED)?;
+    check_changed(rt, alloc, bytes, &[(register, 1), (end, 9)], REGISTER)?;
+    check_changed(rt, alloc, bytes, &[(end, 9)], END)
+}
+
 #[test]
 fn changed_files(rt: HostRuntime) -> Result<(), Fail> {
     let alloc = rt.alloc();
@@ -263,15 +289,8 @@ fn changed_files(rt: HostRuntime) -> Result<(), Fail> {
     run_all(&rt, alloc, &mut store, &mut world, STORES_COMMANDS)?;
     let image = bytes_of(alloc, &store, "a.elf")?;
     check_changed(&rt, alloc, &image, &[(36, 1)], COMPRESSED)?;
-    let bytes = bytes_of(alloc, &store, "a.rec")?;
     let first = checkpoints_at(&recording_in(alloc, &store, "a.rec")?);
-    // Checkpoint 5 is the first that lists a page, and the bytes of the end stand behind the last.
-    let listed = first.saturating_add(5 * 152 + 4 + 5);
-    let register = first.saturating_add(2 * 152 + 28);
-    let end = bytes.len().saturating_sub(156);
-    check_changed(&rt, alloc, &bytes, &[(listed, 5)], LISTED)?;
-    check_changed(&rt, alloc, &bytes, &[(register, 1), (end, 9)], REGISTER)?;
-    check_changed(&rt, alloc, &bytes, &[(end, 9)], END)
+    check_changed_recording(&rt, alloc, &bytes_of(alloc, &store, "a.rec")?, first)
 }
 
 /// Writes 65,536 bytes 4,096 times.

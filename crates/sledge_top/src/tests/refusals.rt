@@ -1,12 +1,12 @@
 //! Refusals by words and files, and outputs that fail.
 
 use super::recordings::recording;
-use super::running::{store_of, tells, told_in, words_of};
+use super::running::{store_of, tells, told_in};
 use super::traces::{EXITS, filled};
-use crate::sledge;
-use sl_base::{GetFault, MemorySink, MemoryWorld, NoGate, PutFault, Store};
+use sl_base::{GetFault, MemoryWorld, NoGate, PutFault, Store};
 use std::alloc::Global;
 use std::test::Fail;
+use std::thread::Threads;
 
 /// Words over an empty file named `a.rec`, and how the command ends.
 const ROWS: &str = "\
@@ -103,32 +103,32 @@ impl Store for LongStore {
     }
 }
 
+/// The number and both outputs of a trace over a store, as one text.
+fn traced_in<R: Threads + Sync, S: Store>(
+    rt: &R,
+    alloc: Global,
+    store: &mut S,
+) -> Result<Vec<u8>, Fail> {
+    let mut world = MemoryWorld::new(Vec::new(alloc));
+    told_in(
+        rt,
+        alloc,
+        store,
+        &mut world,
+        "trace l.rec at 0",
+        (100, 100),
+        &NoGate,
+    )
+}
+
 #[test]
 fn files_that_are_not_got(rt: HostRuntime) -> Result<(), Fail> {
     let alloc = rt.alloc();
-    let words = words_of(alloc, "trace l.rec at 0")?;
-    let mut out = MemorySink::new(alloc, 100, Vec::new(alloc))?;
-    let mut err = MemorySink::new(alloc, 100, Vec::new(alloc))?;
-    let mut world = MemoryWorld::new(Vec::new(alloc));
-    let status = sledge(
-        &rt,
-        alloc,
-        &words,
-        &mut LongStore,
-        &mut world,
-        &mut out,
-        &mut err,
-        &NoGate,
-    );
-    assert_eq!(rt; status.code(), 3);
-    let mut store = store_of(alloc, "l.rec", &[], &[1])?;
-    let status = sledge(
-        &rt, alloc, &words, &mut store, &mut world, &mut out, &mut err, &NoGate,
-    );
-    assert_eq!(rt; status.code(), 10);
-    let lines = b"sledge: longer than 268435456 bytes: l.rec\nsledge: store fault\n";
-    assert_eq!(rt; err.bytes(), lines.as_slice());
-    assert!(rt; out.bytes().is_empty());
+    let text = traced_in(&rt, alloc, &mut LongStore)?;
+    let long = b"3 sledge: longer than 268435456 bytes: l.rec\n";
+    assert_eq!(rt; text.as_slice(), long.as_slice());
+    let text = traced_in(&rt, alloc, &mut store_of(alloc, "l.rec", &[], &[1])?)?;
+    assert_eq!(rt; text.as_slice(), b"10 sledge: store fault\n".as_slice());
     Ok(())
 }
 

@@ -4,7 +4,7 @@
 use super::assembled::DIVISIONS;
 use super::recorded::{EXITS, LIBRARY, bytes_of, check_changed, run_all, store_with, world_of_one};
 use super::recordings::words;
-use sl_base::MemoryWorld;
+use sl_base::{MemoryStore, MemoryWorld};
 use std::alloc::Global;
 use std::process::Abort;
 use std::test::Fail;
@@ -56,9 +56,8 @@ trace argument.rec argument.txt => 0 \
 end,exited,3,,0x0001000c,,0x00000005|regs,x,,,,,x2=0x7fffffd0 x10=0x00000005 x17=0x0000005d|
 ";
 
-#[test]
-fn images_and_sources(rt: HostRuntime) -> Result<(), Fail> {
-    let alloc = rt.alloc();
+/// The images, the sources and the scripts that the commands read.
+fn images_and_texts(alloc: Global) -> Result<MemoryStore, Fail> {
     let (exits, zero) = (words(alloc, EXITS)?, words(alloc, "0")?);
     let other = words(alloc, OTHER_HEADERS)?;
     let files: [(&str, &[u8]); 8] = [
@@ -71,12 +70,18 @@ fn images_and_sources(rt: HostRuntime) -> Result<(), Fail> {
         ("main.txt", b"(at (enter main) (emit 1))"),
         ("argument.txt", ARGUMENT.as_bytes()),
     ];
-    let mut store = store_with(alloc, &files, &[])?;
+    store_with(alloc, &files, &[])
+}
+
+#[test]
+fn images_and_sources(rt: HostRuntime) -> Result<(), Fail> {
+    let alloc = rt.alloc();
+    let mut store = images_and_texts(alloc)?;
     let mut world = MemoryWorld::new(Vec::new(alloc));
     run_all(&rt, alloc, &mut store, &mut world, COMMANDS)?;
-    assert_eq!(rt; bytes_of(alloc, &store, "r1.rec")?.len(), 204);
-    assert_eq!(rt; bytes_of(alloc, &store, "r6.rec")?.len(), 356);
-    assert_eq!(rt; bytes_of(alloc, &store, "zero.rec")?.len(), 196);
+    for (name, len) in [("r1.rec", 204), ("r6.rec", 356), ("zero.rec", 196)] {
+        assert_eq!(rt; store.file(name).map(<[u8]>::len), Some(len), "{name}");
+    }
     Ok(())
 }
 

@@ -1,7 +1,7 @@
 //! Runs commands over files in memory.
 
 use crate::sledge;
-use sl_base::{Gate, MemorySink, MemoryStore, MemoryWorld, NoGate};
+use sl_base::{Gate, MemorySink, MemoryStore, MemoryWorld, NoGate, Sink, Store, World};
 use std::alloc::Global;
 use std::test::Fail;
 use std::thread::Threads;
@@ -25,6 +25,21 @@ pub fn store_of(
     let mut files = Vec::new(alloc);
     files.push((String::from_str(alloc, name)?, bytes.to_vec(alloc)?))?;
     Ok(MemoryStore::new(files, Vec::from_slice(alloc, failing)?))
+}
+
+/// The number that a command ends with.
+pub fn ended<R: Threads + Sync, S: Store, W: World, O: Sink, E: Sink, G: Gate>(
+    rt: &R,
+    alloc: Global,
+    words: &str,
+    store: &mut S,
+    world: &mut W,
+    out: &mut O,
+    err: &mut E,
+    gate: &G,
+) -> Result<u8, Fail> {
+    let words = words_of(alloc, words)?;
+    Ok(sledge(rt, alloc, &words, store, world, out, err, gate).code())
 }
 
 /// The number, the first and the second output of a command over a store and a world, as one text:
@@ -53,10 +68,10 @@ pub fn told_at<R: Threads + Sync, G: Gate>(
 }
 
 /// The same with so much room for the first and for the second output.
-pub fn told_in<R: Threads + Sync, G: Gate>(
+pub fn told_in<R: Threads + Sync, S: Store, G: Gate>(
     rt: &R,
     alloc: Global,
-    store: &mut MemoryStore,
+    store: &mut S,
     world: &mut MemoryWorld,
     words: &str,
     rooms: (usize, usize),
@@ -64,9 +79,8 @@ pub fn told_in<R: Threads + Sync, G: Gate>(
 ) -> Result<Vec<u8>, Fail> {
     let mut out = MemorySink::new(alloc, rooms.0, Vec::new(alloc))?;
     let mut err = MemorySink::new(alloc, rooms.1, Vec::new(alloc))?;
-    let words = words_of(alloc, words)?;
-    let status = sledge(rt, alloc, &words, store, world, &mut out, &mut err, gate);
-    let mut text = format!(in alloc; "{} ", status.code())?.into_bytes();
+    let number = ended(rt, alloc, words, store, world, &mut out, &mut err, gate)?;
+    let mut text = format!(in alloc; "{number} ")?.into_bytes();
     text.extend_from_slice(out.bytes())?;
     text.extend_from_slice(err.bytes())?;
     Ok(text)

@@ -1,10 +1,10 @@
 //! Recordings that are traced by scripts.
 
+use super::recorded::store_with;
 use super::recordings::recording;
-use super::running::words_of;
+use super::running::told_at;
 use super::traces::{EXITS, filled};
-use crate::sledge;
-use sl_base::{MemorySink, MemoryStore, MemoryWorld, NoGate};
+use sl_base::{MemoryWorld, NoGate};
 use std::alloc::Global;
 use std::process::Abort;
 use std::test::Fail;
@@ -19,21 +19,9 @@ pub fn told<R: Threads + Sync>(
     script: &[u8],
     words: &str,
 ) -> Result<Vec<u8>, Fail> {
-    let mut files = Vec::new(alloc);
-    files.push((String::from_str(alloc, "a.rec")?, bytes.to_vec(alloc)?))?;
-    files.push((String::from_str(alloc, "s.txt")?, script.to_vec(alloc)?))?;
-    let mut store = MemoryStore::new(files, Vec::new(alloc));
-    let mut out = MemorySink::new(alloc, 4000, Vec::new(alloc))?;
-    let mut err = MemorySink::new(alloc, 150, Vec::new(alloc))?;
+    let mut store = store_with(alloc, &[("a.rec", bytes), ("s.txt", script)], &[])?;
     let mut world = MemoryWorld::new(Vec::new(alloc));
-    let words = words_of(alloc, words)?;
-    let status = sledge(
-        rt, alloc, &words, &mut store, &mut world, &mut out, &mut err, &NoGate,
-    );
-    let mut text = format!(in alloc; "{} ", status.code())?.into_bytes();
-    text.extend_from_slice(out.bytes())?;
-    text.extend_from_slice(err.bytes())?;
-    Ok(text)
+    told_at(rt, alloc, &mut store, &mut world, words, 4000, &NoGate)
 }
 
 /// Checks rows of a script and how its trace ends, in one epoch and in as many as there are
