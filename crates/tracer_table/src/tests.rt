@@ -6,11 +6,35 @@ mod in_place;
 mod outcomes;
 mod running;
 
-use running::{left_by_code, left_on_copy};
+use running::{Left, left_by_code, left_on_copy};
 use std::alloc::Global;
 use std::process::Abort;
 use std::test::Fail;
-use tracer_lang::TracerEnd;
+use tracer_lang::{Record, TracerEnd};
+
+/// A tracer's end and words are those that are due.
+pub fn expect_end(
+    rt: &impl Abort,
+    left: (TracerEnd, &[u32]),
+    due: (TracerEnd, &[u32]),
+    text: &str,
+) {
+    assert_eq!(rt; left.0, due.0, "{text}");
+    assert_eq!(rt; left.1, due.1, "{text}");
+}
+
+/// What a compiled tracer left is what its copy left, after so many stores.
+fn expect_left(rt: &impl Abort, left: &Left, due: &Record, stores: u32, text: &str) {
+    let words = due.words.as_slice();
+    expect_end(
+        rt,
+        (left.outcome, left.words.as_slice()),
+        (due.outcome, words),
+        text,
+    );
+    assert_eq!(rt; left.stores, stores, "{text}");
+    assert!(rt; left.restored, "{text}");
+}
 
 /// The tracer of a script, compiled, ends so, after so many stores, with the words of its copy.
 fn expect(
@@ -25,10 +49,7 @@ fn expect(
     match (due, left) {
         (Some(due), Some(left)) => {
             assert_eq!(rt; due.outcome, outcome, "{text}");
-            assert_eq!(rt; left.outcome, outcome, "{text}");
-            assert_eq!(rt; left.words.as_slice(), due.words.as_slice(), "{text}");
-            assert_eq!(rt; left.stores, stores, "{text}");
-            assert!(rt; left.restored, "{text}");
+            expect_left(rt, &left, &due, stores, text);
         }
         _ => assert!(rt; false, "no end: {text}"),
     }

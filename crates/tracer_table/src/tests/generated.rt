@@ -1,5 +1,6 @@
 //! Scripts that are drawn from a grammar: a tracer in place leaves what it leaves on a copy.
 
+use super::expect_end;
 use super::in_place::left_in_place;
 use super::outcomes::expect_untouched;
 use super::running::left_on_copy;
@@ -184,13 +185,25 @@ impl Random {
     }
 }
 
+/// Where a record was left: the count, the tracepoint and the program counter.
+pub fn place_of(record: &Record) -> [u64; 3] {
+    [record.count, record.point as u64, record.pc as u64]
+}
+
 /// Two records are the same.
 fn expect_equal(rt: &impl Abort, left: &Record, due: &Record, text: &str) {
-    assert_eq!(rt; left.outcome, due.outcome, "{text}");
-    assert_eq!(rt; left.words.as_slice(), due.words.as_slice(), "{text}");
-    assert_eq!(rt; left.count, due.count, "{text}");
-    assert_eq!(rt; left.point, due.point, "{text}");
-    assert_eq!(rt; left.pc, due.pc, "{text}");
+    let words = due.words.as_slice();
+    expect_end(
+        rt,
+        (left.outcome, left.words.as_slice()),
+        (due.outcome, words),
+        text,
+    );
+    assert_eq!(rt;
+        place_of(left).as_slice(),
+        place_of(due).as_slice(),
+        "{text}"
+    );
 }
 
 #[test]

@@ -1,5 +1,7 @@
 //! Each outcome of a tracer in place, with the words and the number of stores worked by hand.
 
+use super::expect_end;
+use super::generated::place_of;
 use super::in_place::{LeftInPlace, left_in_place};
 use std::process::Abort;
 use std::test::Fail;
@@ -26,13 +28,19 @@ pub fn expect_untouched(rt: &impl Abort, left: &LeftInPlace, text: &str) {
 
 /// The record is that of the machine and of a row.
 fn expect_row(rt: &impl Abort, left: &LeftInPlace, row: &Row) {
-    let text = row.text;
-    assert_eq!(rt; left.record.outcome, row.outcome, "{text}");
-    assert_eq!(rt; left.record.words.as_slice(), row.words, "{text}");
+    let (record, text) = (&left.record, row.text);
+    expect_end(
+        rt,
+        (record.outcome, record.words.as_slice()),
+        (row.outcome, row.words),
+        text,
+    );
     assert_eq!(rt; left.stores, row.stores, "{text}");
-    assert_eq!(rt; left.record.count, 5, "{text}");
-    assert_eq!(rt; left.record.point, 0, "{text}");
-    assert_eq!(rt; left.record.pc, 0x10014, "{text}");
+    assert_eq!(rt;
+        place_of(record).as_slice(),
+        [5, 0, 0x10014].as_slice(),
+        "{text}"
+    );
 }
 
 #[test]

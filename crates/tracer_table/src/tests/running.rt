@@ -37,20 +37,31 @@ pub fn script_of(alloc: Global, text: &str) -> Result<Option<Script>, Memory> {
     }
 }
 
-/// A machine at 0x10014 with three pages, the last of them the highest of a program. That one and
-/// the page at 0x12000 are dirty, in this order, and the page at 0x11000 is not.
-pub fn machine(alloc: Global) -> Result<(Machine, Frames), Memory>
-    ensures { IfOk result (λ made. made.0.status ≡ RunState.Running) }
-{
+/// Three pages, the last of them the highest of a program.
+fn mapped(alloc: Global) -> Result<Frames, Memory> {
     let mut frames = Frames::new(alloc)?;
     frames.map_page(0x11)?;
     frames.map_page(0x12)?;
     frames.map_page(0xBFFFE)?;
+    Ok(frames)
+}
+
+/// Those pages with some words. The last page and the page at 0x12000 are dirty, in this order, and
+/// the page at 0x11000 is not.
+fn written(alloc: Global) -> Result<Frames, Memory> {
+    let mut frames = mapped(alloc)?;
     frames.store(0x11004, 4, 0x8081_8283);
     frames.store(0x11ffc, 4, 0xf0f1_f2f3);
     frames.clear_dirty();
     frames.store(0xbfff_effc, 4, 0);
     frames.store(0x12000, 4, 0xa0a1_a2a3);
+    Ok(frames)
+}
+
+/// A machine at 0x10014 over those pages.
+pub fn machine(alloc: Global) -> Result<(Machine, Frames), Memory>
+    ensures { IfOk result (λ made. made.0.status ≡ RunState.Running) }
+{
     let mut x = [0; 32];
     x[5] = 0xffff_fff6;
     x[6] = 3;
@@ -69,7 +80,7 @@ pub fn machine(alloc: Global) -> Result<(Machine, Frames), Memory>
             heap_limit: 0x15000,
         },
     };
-    Ok((machine, frames))
+    Ok((machine, written(alloc)?))
 }
 
 /// What the first tracer of a script leaves on a copy; `None` where there is none.
@@ -150,6 +161,49 @@ pub fn are_alike(a: &Frames, b: &Frames) -> bool {
     })
 }
 
+/// The words that a bank has as its output.
+fn output_of(alloc: Global, bank: &Bank) -> Result<Vec<u32>, Memory> {
+    let mut words = Vec::new(alloc);
+    for i in 0..bank.out_len() {
+        if let Some(word) = bank.out_word(i) {
+            words.push(word)?;
+        }
+    }
+    Ok(words)
+}
+
+/// Undoes the stores of a bank's log; false where it has too many entries.
+fn undo(bank: &mut Bank, frames: &mut Frames) -> bool {
+    let fits = bank.log_len() <= MOST_ENTRIES;
+    if fits {
+        bank.undo_into(frames);
+    }
+    fits
+}
+
+/// What a tracer with its first word at a place leaves; `None` where its run does not end as it
+/// should.
+fn left_at(alloc: Global, code: &TracerCode, place: u32) -> Result<Option<Left>, Memory> {
+    let (m, before) = machine(alloc)?;
+    let mut frames = written(alloc)?;
+    let mut bank = Bank::new(alloc, code.words.as_slice())?;
+    bank.start(&copies_of(&m));
+    let mut t = started(&m, place);
+    if !run_to_end(&mut t, &mut bank, &mut frames, code.most) {
+        return Ok(None);
+    }
+    let words = output_of(alloc, &bank)?;
+    if !undo(&mut bank, &mut frames) {
+        return Ok(None);
+    }
+    Ok(Some(Left {
+        outcome: outcome_of(t.x[10], t.x[11]),
+        words,
+        stores: bank.last_log_len(),
+        restored: are_alike(&before, &frames),
+    }))
+}
+
 /// What the first tracer of a script leaves as compiled code; `None` where there is none, or where
 /// its run does not end as it should.
 pub fn left_by_code(alloc: Global, text: &str) -> Result<Option<Left>, Memory> {
@@ -157,31 +211,8 @@ pub fn left_by_code(alloc: Global, text: &str) -> Result<Option<Left>, Memory> {
         return Ok(None);
     };
     let code = compile(alloc, &script)?;
-    let Some(place) = code.places.as_slice().first() else {
-        return Ok(None);
-    };
-    let (m, before) = machine(alloc)?;
-    let (_, mut frames) = machine(alloc)?;
-    let mut bank = Bank::new(alloc, code.words.as_slice())?;
-    bank.start(&copies_of(&m));
-    let mut t = started(&m, *place);
-    if !run_to_end(&mut t, &mut bank, &mut frames, code.most) {
-        return Ok(None);
+    match code.places.as_slice().first() {
+        Some(place) => left_at(alloc, &code, *place),
+        None => Ok(None),
     }
-    let mut words = Vec::new(alloc);
-    for i in 0..bank.out_len() {
-        if let Some(word) = bank.out_word(i) {
-            words.push(word)?;
-        }
-    }
-    if bank.log_len() > MOST_ENTRIES {
-        return Ok(None);
-    }
-    bank.undo_into(&mut frames);
-    Ok(Some(Left {
-        outcome: outcome_of(t.x[10], t.x[11]),
-        words,
-        stores: bank.last_log_len(),
-        restored: are_alike(&before, &frames),
-    }))
 }

@@ -1,7 +1,7 @@
 use Rattle.std.proofs.Common.{◌≡◌, List, ℕ, arith}
 use Rattle.std.specs.Ordering.{nat_cmp}
 use Rattle.std.specs.FinMap.{len, len-empty}
-use Rattle.tracer_table.proofs.tests.running.machine.Goals as goal
+use Rattle.tracer_table.proofs.tests.running.mapped.Goals as goal
 
 pub map_page-requires-clause-few : goal.map_page-requires-clause-few
 map_page-requires-clause-few c =
