@@ -10,19 +10,25 @@ use rv_machine::Machine;
 use sl_base::{Memory, Seq};
 use sl_model::{BranchOp, Bus, Layout, LoadOp, RegisterOp, RunState, StoreOp};
 use std::alloc::{AllocError, Global};
+use std::process::Abort;
 use std::test::Fail;
 use tracer_lang::{
     Args, Block, Expr, Function, Operator, Point, Record, Script, Stmt, Tracepoint, TracerEnd,
 };
 
-/// A machine at 0x10014 with the page at 0x11000, in which 8 stands at 0x11004.
-fn machine(alloc: Global) -> Result<(Machine, Frames), Memory> {
+/// The page at 0x11000, in which 8 stands at 0x11004.
+fn frames(alloc: Global) -> Result<Frames, Memory> {
     let mut frames = Frames::new(alloc)?;
     frames.map_page(0x11)?;
     frames.store(0x11004, 4, 8);
+    Ok(frames)
+}
+
+/// A machine at 0x10014 over that page.
+fn machine() -> Machine {
     let mut x = [0; 32];
     x[10] = 0x12345;
-    let machine = Machine {
+    Machine {
         pc: 0x10014,
         x,
         brk: 0x12000,
@@ -34,8 +40,7 @@ fn machine(alloc: Global) -> Result<(Machine, Frames), Memory> {
             brk_start: 0x11000,
             heap_limit: 0x13000,
         },
-    };
-    Ok((machine, frames))
+    }
 }
 
 /// What an operator makes of two expressions.
@@ -115,8 +120,7 @@ fn left_by(alloc: Global, budget: u32, body: Block) -> Result<Record, Memory>
     requires fits { FitsStatements (0 ∷ []) 1 (statements_of body) }
 {
     let script = script_of(alloc, budget, body)?;
-    let (m, f) = machine(alloc)?;
-    run_on_copy(alloc, m, f, &script, 0)
+    run_on_copy(alloc, machine(), frames(alloc)?, &script, 0)
 }
 
 /// The local is counted up while it is below a number, after a statement.
@@ -135,25 +139,60 @@ fn counting(alloc: Global, turns: u32, first: Stmt, last: Stmt) -> Result<Block,
     before(alloc, Stmt::While(condition, turn), only(alloc, last)?)
 }
 
-/// A copy is the same and has no dirty page, and a record tells where it was left.
+/// A record has these words and this outcome; `row` tells which it is.
+fn expect(rt: &impl Abort, left: &Record, words: &[u32], end: TracerEnd, row: u32) {
+    assert!(rt; left.outcome == end, "{row}");
+    assert!(rt; left.words.as_slice() == words, "{row}");
+}
+
+/// A record has so many words and this outcome; `row` tells which it is.
+fn expect_number(rt: &impl Abort, left: &Record, words: usize, end: TracerEnd, row: u32) {
+    assert!(rt; left.outcome == end, "{row}");
+    assert!(rt; left.words.len() == words, "{row}");
+}
+
+/// A copy is the same and has no dirty page.
 #[test]
-fn leaves_a_record(rt: HostRuntime) -> Result<(), Fail> {
+fn copies(rt: HostRuntime) -> Result<(), Fail> {
     let alloc = rt.alloc();
-    let (m, f) = machine(alloc)?;
-    let (copied, frames) = copy_of(alloc, &m, &f)?;
-    assert!(rt; copied == m);
+    let (copied, frames) = copy_of(alloc, &machine(), &frames(alloc)?)?;
+    assert!(rt; copied == machine());
     assert_eq!(rt; frames.load(0x11004, 4), Some(8));
     assert_eq!(rt; frames.dirty_len(), 0);
-    let body = before(alloc, Stmt::Emit(Expr::Register(10)), Block::End)?;
-    let body = before(alloc, Stmt::Emit(Expr::Pc), body)?;
-    let script = script_of(alloc, 1, body)?;
-    let left = run_on_copy(alloc, copied, frames, &script, 0)?;
+    Ok(())
+}
+
+/// What a tracer leaves on a copy that emits the program counter and a register.
+fn left_on_copy(alloc: Global) -> Result<Record, Memory> {
+    let register = only(alloc, Stmt::Emit(Expr::Register(10)))?;
+    let script = script_of(alloc, 1, before(alloc, Stmt::Emit(Expr::Pc), register)?)?;
+    let (copied, frames) = copy_of(alloc, &machine(), &frames(alloc)?)?;
+    run_on_copy(alloc, copied, frames, &script, 0)
+}
+
+/// A record tells where it was left.
+#[test]
+fn leaves_a_record(rt: HostRuntime) -> Result<(), Fail> {
+    let left = left_on_copy(rt.alloc())?;
     assert_eq!(rt; left.count, 5);
     assert_eq!(rt; left.point, 0);
     assert_eq!(rt; left.pc, 0x10014);
-    assert_eq!(rt; left.words.as_slice(), [0x10014, 0x12345].as_slice());
-    assert!(rt; left.outcome == TracerEnd::Done);
+    expect(&rt, &left, &[0x10014, 0x12345], TracerEnd::Done, 0);
     Ok(())
+}
+
+/// What a tracer leaves that emits 1 and a load.
+fn left_by_load(alloc: Global, op: LoadOp, address: u32) -> Result<Record, Memory> {
+    let body = only(alloc, Stmt::Emit(loaded(alloc, op, address)?))?;
+    left_by(alloc, 1, before(alloc, Stmt::Emit(Expr::Number(1)), body)?)
+}
+
+/// A load at an address has a value, or faults.
+fn expect_load(rt: &impl Abort, left: &Record, address: u32, want: Option<u32>) {
+    match want {
+        Some(value) => expect(rt, left, &[1, value], TracerEnd::Done, address),
+        None => expect(rt, left, &[1], TracerEnd::LoadFault(address), address),
+    }
 }
 
 /// Emits 1 and a load; a load that faults leaves the first word.
@@ -171,22 +210,25 @@ fn loads(rt: HostRuntime) -> Result<(), Fail> {
         (LoadOp::Lb, 0xffff_ffff, None),
         (LoadOp::Lw, 0xffff_ffff, None),
     ] {
-        let alloc = rt.alloc();
-        let value = loaded(alloc, op, address)?;
-        let body = only(alloc, Stmt::Emit(value))?;
-        let left = left_by(alloc, 1, before(alloc, Stmt::Emit(Expr::Number(1)), body)?)?;
-        match want {
-            Some(value) => {
-                assert!(rt; left.words.as_slice() == [1, value].as_slice(), "{address}");
-                assert!(rt; left.outcome == TracerEnd::Done, "{address}");
-            }
-            None => {
-                assert!(rt; left.words.as_slice() == [1].as_slice(), "{address}");
-                assert!(rt; left.outcome == TracerEnd::LoadFault(address), "{address}");
-            }
-        }
+        let left = left_by_load(rt.alloc(), op, address)?;
+        expect_load(&rt, &left, address, want);
     }
     Ok(())
+}
+
+/// What a tracer leaves that stores the low bytes of 0xffff1234, and emits the word at 0x11004.
+fn left_by_store(alloc: Global, op: StoreOp, address: u32) -> Result<Record, Memory> {
+    let body = only(alloc, Stmt::Emit(loaded(alloc, LoadOp::Lw, 0x11004)?))?;
+    let store = Stmt::Store(op, Expr::Number(address), Expr::Number(0xffff_1234));
+    left_by(alloc, 1, before(alloc, store, body)?)
+}
+
+/// After a store at an address the word is this, or the store faults.
+fn expect_store(rt: &impl Abort, left: &Record, address: u32, want: Option<u32>) {
+    match want {
+        Some(value) => expect(rt, left, &[value], TracerEnd::Done, address),
+        None => expect(rt, left, &[], TracerEnd::StoreFault(address), address),
+    }
 }
 
 /// Stores the low bytes of 0xffff1234, and emits the word at 0x11004.
@@ -203,23 +245,27 @@ fn stores(rt: HostRuntime) -> Result<(), Fail> {
         (StoreOp::Sw, 0xbfff_fffe, None),
         (StoreOp::Sb, 0xffff_ffff, None),
     ] {
-        let alloc = rt.alloc();
-        let value = loaded(alloc, LoadOp::Lw, 0x11004)?;
-        let body = only(alloc, Stmt::Emit(value))?;
-        let store = Stmt::Store(op, Expr::Number(address), Expr::Number(0xffff_1234));
-        let left = left_by(alloc, 1, before(alloc, store, body)?)?;
-        match want {
-            Some(value) => {
-                assert!(rt; left.words.as_slice() == [value].as_slice(), "{address}");
-                assert!(rt; left.outcome == TracerEnd::Done, "{address}");
-            }
-            None => {
-                assert!(rt; left.words.is_empty(), "{address}");
-                assert!(rt; left.outcome == TracerEnd::StoreFault(address), "{address}");
-            }
-        }
+        let left = left_by_store(rt.alloc(), op, address)?;
+        expect_store(&rt, &left, address, want);
     }
     Ok(())
+}
+
+/// What a tracer leaves that emits the local in each of so many turns, with a budget.
+fn left_by_turns(alloc: Global, budget: u32, turns: u32) -> Result<Record, Memory>
+    requires least_budget { 1 ≤ budget }
+    requires most_budget { budget ≤ 1000000 }
+{
+    let emits = Stmt::Emit(Expr::Local(0));
+    let body = counting(alloc, turns, emits, Stmt::Run(Expr::Pc))?;
+    left_by(alloc, budget, body)
+}
+
+/// The words of a record are their places.
+fn expect_places(rt: &impl Abort, left: &Record, turns: u32) {
+    for (i, word) in left.words.as_slice().iter().enumerate() {
+        assert!(rt; *word as usize == i, "{turns}");
+    }
 }
 
 /// Emits the local in each of so many turns, with a budget.
@@ -235,17 +281,18 @@ fn counts_turns(rt: HostRuntime) -> Result<(), Fail> {
         (256, 257, 256, TracerEnd::OverBudget),
         (1_000_000, 1_000_000, 256, TracerEnd::TooManyWords),
     ] {
-        let alloc = rt.alloc();
-        let emits = Stmt::Emit(Expr::Local(0));
-        let last = Stmt::Run(Expr::Pc);
-        let left = left_by(alloc, budget, counting(alloc, turns, emits, last)?)?;
-        assert!(rt; left.outcome == end, "{budget} for {turns}");
-        assert!(rt; left.words.len() == words, "{budget} for {turns}");
-        for (i, word) in left.words.as_slice().iter().enumerate() {
-            assert!(rt; *word as usize == i, "{budget} for {turns}");
-        }
+        let left = left_by_turns(rt.alloc(), budget, turns)?;
+        expect_number(&rt, &left, words, end, turns);
+        expect_places(&rt, &left, turns);
     }
     Ok(())
+}
+
+/// What a tracer leaves that stores a byte in each turn, and then emits the local.
+fn left_by_stores(alloc: Global, turns: u32) -> Result<Record, Memory> {
+    let store = Stmt::Store(StoreOp::Sb, Expr::Number(0x11000), Expr::Number(1));
+    let body = counting(alloc, turns, store, Stmt::Emit(Expr::Local(0)))?;
+    left_by(alloc, 1_000_000, body)
 }
 
 /// Stores a byte in each turn, and then emits the local.
@@ -255,14 +302,19 @@ fn counts_stores(rt: HostRuntime) -> Result<(), Fail> {
         (4096, [4096].as_slice(), TracerEnd::Done),
         (4097, [].as_slice(), TracerEnd::TooManyStores),
     ] {
-        let alloc = rt.alloc();
-        let store = Stmt::Store(StoreOp::Sb, Expr::Number(0x11000), Expr::Number(1));
-        let last = Stmt::Emit(Expr::Local(0));
-        let left = left_by(alloc, 1_000_000, counting(alloc, turns, store, last)?)?;
-        assert!(rt; left.outcome == end, "{turns}");
-        assert!(rt; left.words.as_slice() == words, "{turns}");
+        let left = left_by_stores(rt.alloc(), turns)?;
+        expect(&rt, &left, words, end, turns);
     }
     Ok(())
+}
+
+/// What a tracer leaves that calls the function.
+fn left_by_call(alloc: Global, budget: u32) -> Result<Record, Memory>
+    requires least_budget { 1 ≤ budget }
+    requires most_budget { budget ≤ 1000000 }
+{
+    let body = only(alloc, Stmt::Run(Expr::Call(0, Args::End)))?;
+    left_by(alloc, budget, body)
 }
 
 /// The function calls itself until 32 calls are open, or the budget is spent.
@@ -273,13 +325,18 @@ fn counts_calls(rt: HostRuntime) -> Result<(), Fail> {
         (32, 32, TracerEnd::TooDeep),
         (31, 31, TracerEnd::OverBudget),
     ] {
-        let alloc = rt.alloc();
-        let body = only(alloc, Stmt::Run(Expr::Call(0, Args::End)))?;
-        let left = left_by(alloc, budget, body)?;
-        assert!(rt; left.outcome == end, "{budget}");
-        assert!(rt; left.words.len() == words, "{budget}");
+        let left = left_by_call(rt.alloc(), budget)?;
+        expect_number(&rt, &left, words, end, budget);
     }
     Ok(())
+}
+
+/// What a tracer leaves that emits 1 and what a system call gives.
+fn left_by_system_call(alloc: Global, code: u32, value: u32) -> Result<Record, Memory> {
+    let code = Box::new(alloc, Expr::Number(code))?;
+    let value = Box::new(alloc, Expr::Number(value))?;
+    let body = only(alloc, Stmt::Emit(Expr::Sys(code, value)))?;
+    left_by(alloc, 1, before(alloc, Stmt::Emit(Expr::Number(1)), body)?)
 }
 
 /// Emits 1 and what a system call gives. The break is 0x12000, and so is the heap's mapped end.
@@ -295,34 +352,34 @@ fn calls_the_system(rt: HostRuntime) -> Result<(), Fail> {
         (214, 0x13000, 0, TracerEnd::Barred(214)),
         (64, 0, 0, TracerEnd::Barred(64)),
     ] {
-        let alloc = rt.alloc();
-        let code = Box::new(alloc, Expr::Number(code))?;
-        let value = Box::new(alloc, Expr::Number(value))?;
-        let body = only(alloc, Stmt::Emit(Expr::Sys(code, value)))?;
-        let left = left_by(alloc, 1, before(alloc, Stmt::Emit(Expr::Number(1)), body)?)?;
-        assert!(rt; left.outcome == end, "{word}");
-        let words = [1, word];
+        let left = left_by_system_call(rt.alloc(), code, value)?;
         let known = if end == TracerEnd::Done { 2 } else { 1 };
-        assert!(rt; left.words.as_slice() == &words[..known], "{word}");
+        expect(&rt, &left, &[1, word][..known], end, value);
     }
     Ok(())
+}
+
+/// What a tracer leaves that emits 2 behind a `stop`.
+fn left_by_stop(alloc: Global) -> Result<Record, Memory> {
+    let body = only(alloc, Stmt::Emit(Expr::Number(2)))?;
+    left_by(alloc, 1, before(alloc, Stmt::Stop(Expr::Number(9)), body)?)
+}
+
+/// What a tracer leaves that emits 2 behind a `return`.
+fn left_by_return(alloc: Global) -> Result<Record, Memory> {
+    let body = only(alloc, Stmt::Emit(Expr::Number(2)))?;
+    left_by(
+        alloc,
+        1,
+        before(alloc, Stmt::Return(Expr::Number(9)), body)?,
+    )
 }
 
 /// What stands behind a `stop` or a `return` is not done.
 #[test]
 fn ends_early(rt: HostRuntime) -> Result<(), Fail> {
     let alloc = rt.alloc();
-    let body = only(alloc, Stmt::Emit(Expr::Number(2)))?;
-    let left = left_by(alloc, 1, before(alloc, Stmt::Stop(Expr::Number(9)), body)?)?;
-    assert!(rt; left.words.is_empty());
-    assert!(rt; left.outcome == TracerEnd::User(9));
-    let body = only(alloc, Stmt::Emit(Expr::Number(2)))?;
-    let left = left_by(
-        alloc,
-        1,
-        before(alloc, Stmt::Return(Expr::Number(9)), body)?,
-    )?;
-    assert!(rt; left.words.is_empty());
-    assert!(rt; left.outcome == TracerEnd::Done);
+    expect(&rt, &left_by_stop(alloc)?, &[], TracerEnd::User(9), 0);
+    expect(&rt, &left_by_return(alloc)?, &[], TracerEnd::Done, 1);
     Ok(())
 }

@@ -1,7 +1,7 @@
 use Rattle.std.proofs.Common.{List, ℕ, arith}
 use Rattle.std.specs.Ordering.{nat_cmp}
 use Rattle.std.specs.FinMap.{len-empty}
-use Rattle.tracer_mean.proofs.tests.machine.Goals as goal
+use Rattle.tracer_mean.proofs.tests.frames.Goals as goal
 
 pub map_page-requires-clause-few : goal.map_page-requires-clause-few
 map_page-requires-clause-few c =
