@@ -418,6 +418,19 @@ fn state_at(
     Ok((machine, frames))
 }
 
+/// The byte at an address, where it is mapped.
+fn expect_load(rt: &impl Abort, frames: &Frames, address: u32, byte: Option<u32>) {
+    assert!(rt; frames.load(address, 1) == byte);
+}
+
+/// The bytes at the start of some pages.
+fn expect_bytes(rt: &impl Abort, frames: &Frames, bytes: &[(u32, Option<u32>)]) {
+    for (page, byte) in bytes {
+        assert!(rt; *page < 0x10_0000);
+        expect_load(rt, frames, *page * 4096, *byte);
+    }
+}
+
 /// The mapped end of a machine, and the bytes at the start of some pages.
 fn expect_memory(
     rt: &impl Abort,
@@ -427,10 +440,7 @@ fn expect_memory(
 ) {
     assert_eq!(rt; state.0.brk_end, end);
     assert_eq!(rt; state.1.dirty_len(), 0);
-    for (page, byte) in bytes {
-        assert!(rt; *page < 0x10_0000);
-        assert!(rt; state.1.load(*page * 4096, 1) == *byte);
-    }
+    expect_bytes(rt, &state.1, bytes);
 }
 
 #[test]
@@ -469,29 +479,32 @@ fn memories_of_checkpoints(rt: HostRuntime) -> Result<(), Fail> {
     Ok(())
 }
 
+/// The machine of a checkpoint with a heap of no page, and the bytes at the start of some pages.
+fn expect_state(
+    rt: &impl Abort,
+    alloc: Global,
+    checkpoints: &Checkpoints,
+    k: u32,
+    machine: &Machine,
+    bytes: &[(u32, Option<u32>)],
+) -> Result<(), Fail> {
+    let state = state_at(rt, alloc, checkpoints, k)?;
+    assert!(rt; state.0 == *machine);
+    expect_memory(rt, &state, 0x12000, bytes);
+    Ok(())
+}
+
 #[test]
 fn machines_of_checkpoints(rt: HostRuntime) -> Result<(), Fail> {
-    let checkpoints = kept(rt.alloc(), &[plain(2, &[(16, 9)])], &plain(3, &[(20, 3)]))?;
-    let (opened, _) = opening(rt.alloc())?;
-    let state = state_at(&rt, rt.alloc(), &checkpoints, 0)?;
-    assert!(rt; state.0 == opened);
-    expect_memory(
-        &rt,
-        &state,
-        0x12000,
-        &[(16, Some(1)), (20, Some(0)), (17, None)],
-    );
-    let state = state_at(&rt, rt.alloc(), &checkpoints, 2)?;
-    let (mut machine, _) = replayed(rt.alloc())?;
+    let alloc = rt.alloc();
+    let checkpoints = kept(alloc, &[plain(2, &[(16, 9)])], &plain(3, &[(20, 3)]))?;
+    let (opened, _) = opening(alloc)?;
+    let bytes = [(16, Some(1)), (20, Some(0)), (17, None)];
+    expect_state(&rt, alloc, &checkpoints, 0, &opened, &bytes)?;
+    let (mut machine, _) = replayed(alloc)?;
     machine.count = 3;
-    assert!(rt; state.0 == machine);
-    expect_memory(
-        &rt,
-        &state,
-        0x12000,
-        &[(16, Some(9)), (20, Some(3)), (17, None)],
-    );
-    Ok(())
+    let bytes = [(16, Some(9)), (20, Some(3)), (17, None)];
+    expect_state(&rt, alloc, &checkpoints, 2, &machine, &bytes)
 }
 
 #[test]
