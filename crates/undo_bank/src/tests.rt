@@ -13,12 +13,17 @@ use std::test::Fail;
 
 mod running;
 
+/// Sets a word of a program's memory, and leaves no page dirty.
+fn set_word(frames: &mut Frames, addr: u32, word: u32) {
+    let _ = frames.store(addr, 4, word);
+    frames.clear_dirty();
+}
+
 /// Page 16 alone, with a word at its start.
 fn one_page(alloc: Global) -> Result<Frames, Memory> {
     let mut frames = Frames::new(alloc)?;
     frames.map_page(16)?;
-    let _ = frames.store(0x10000, 4, 0x0403_0201);
-    frames.clear_dirty();
+    set_word(&mut frames, 0x10000, 0x0403_0201);
     Ok(frames)
 }
 
@@ -131,15 +136,20 @@ fn puts_back_newest_first(rt: HostRuntime) -> Result<(), Fail> {
     Ok(())
 }
 
+/// Sets a word of the bank.
+fn set_bank_word(bank: &mut Bank, addr: u32, word: u32) {
+    let _ = bank.store(addr, 4, word);
+}
+
 /// Writes seven entries of any width into the log.
 fn write_log(rt: &impl Abort, bank: &mut Bank, entries: &[(u32, u32); 7]) {
-    let _ = bank.store(0xe000_0000, 4, 7);
+    set_bank_word(bank, 0xe000_0000, 7);
     let mut place = 0xe000_0004;
     for (addr, width) in entries {
         assert!(rt; place < 0xe000_c000);
-        let _ = bank.store(place, 4, *addr);
-        let _ = bank.store(place + 4, 4, *width);
-        let _ = bank.store(place + 8, 4, 0xffff_ffff);
+        set_bank_word(bank, place, *addr);
+        set_bank_word(bank, place + 4, *width);
+        set_bank_word(bank, place + 8, 0xffff_ffff);
         place += 12;
     }
 }

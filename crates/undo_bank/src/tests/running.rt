@@ -6,7 +6,7 @@ ghost use Rattle.sl_model.specs.Step as next;
 ghost use Rattle.rv_machine.specs.Machine.{state_of, WentOn};
 ghost use Rattle.undo_bank.specs.Areas.{areas_over};
 
-use super::{one_page, undo};
+use super::{one_page, set_word, undo};
 use crate::{Bank, BankBus};
 use page_frames::Frames;
 use rv_machine::{Machine, Outcome, step};
@@ -104,8 +104,7 @@ fn run(m: &mut Machine, bank: &mut Bank, frames: &mut Frames) -> Outcome {
 fn words_run_in_the_bank(rt: HostRuntime) -> Result<(), Fail> {
     let mut bank = Bank::new(rt.alloc(), &WORDS)?;
     let mut frames = one_page(rt.alloc())?;
-    let _ = frames.store(0x10004, 4, 0x0102_0304);
-    frames.clear_dirty();
+    set_word(&mut frames, 0x10004, 0x0102_0304);
     let mut copies = [0; 37];
     copies[32] = 0x0001_0abc;
     for _ in 0..2 {
