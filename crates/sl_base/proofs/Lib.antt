@@ -1,3 +1,0 @@
-pub mod FileListLemmas
-pub mod WorldRows
-pub mod WrittenLemmas

@@ -1,9 +1,3 @@
-pub mod FaultPlan
-pub mod Faults
-pub mod FileList
-pub mod Files
-pub mod InMemory
+pub mod Calls
 pub mod Refusals
 pub mod Text
-pub mod World
-pub mod Written

@@ -1,0 +1,4 @@
+pub mod FileListLemmas
+pub mod Hearing
+pub mod WorldRows
+pub mod WrittenLemmas

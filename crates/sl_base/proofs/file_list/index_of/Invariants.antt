@@ -1,5 +1,0 @@
-use Rattle.sl_base.specs.FileList.{NoneNamed}
-use Rattle.sl_base.proofs.file_list.index_of.Given as goal
-
-abbrev pub invariant-loop-index : goal.invariant-loop-index
-invariant-loop-index l = NoneNamed l.files l.name l.index
