@@ -1,4 +1,6 @@
 pub mod Finds
 pub mod Pieces
 pub mod Labels
+pub mod Decimals
+pub mod LoadImmediates
 mod Digits

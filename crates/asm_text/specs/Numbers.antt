@@ -34,6 +34,10 @@ number_of bs =
 abbrev pub is_within : ℕ → ℕ → Number → Bool
 is_within low high n = nat_le n.magnitude (if n.is_negative then low else high)
 
+-- an even offset that reaches less than so far, or just so far back
+abbrev pub is_offset : ℕ → Number → Bool
+is_offset reach n = is_within reach (reach - 2) n && n.magnitude % 2 == 0
+
 -- the word of a number modulo 2^32, in two's complement
 abbrev pub word_of : Number → ℕ
 word_of n = if n.is_negative then (2 ^ 32 - n.magnitude % 2 ^ 32) % 2 ^ 32 else n.magnitude % 2 ^ 32

@@ -8,7 +8,7 @@ use Rattle.asm_text.specs.declared.number.Number.{Number}
 use Rattle.asm_text.specs.declared.operand.Target.{Target}
 use Rattle.asm_text.specs.declared.operand.Target.TheVariants.{Offset, Label}
 use Rattle.asm_text.specs.Bytes.{trimmed, is_name}
-use Rattle.asm_text.specs.Numbers.{number_of, is_within}
+use Rattle.asm_text.specs.Numbers.{number_of, is_offset}
 use Rattle.asm_text.specs.Names.{register_named}
 
 -- a value goes on to what is made of it, and a cause stays
@@ -56,16 +56,17 @@ number piece = ok_or (number_of piece) Operand
 abbrev pub label : List ℕ → Result Target AsmCause
 label piece = if is_name piece then Ok Label else Err Operand
 
+-- a number as an offset of a jump that reaches so far
+abbrev pub offset : ℕ → Number → Result Target AsmCause
+offset reach n = if is_offset reach n then Ok (Offset n) else Err Range
+
 -- an offset, or a label
-abbrev pub offset : Number → Result Target AsmCause
-offset n = if is_within (2 ^ 31) (2 ^ 32 - 1) n then Ok (Offset n) else Err Range
+abbrev pub target_from : ℕ → Option Number → List ℕ → Result Target AsmCause
+target_from reach (Some n) piece = offset reach n
+target_from reach None piece = label piece
 
-abbrev pub target_from : Option Number → List ℕ → Result Target AsmCause
-target_from (Some n) piece = offset n
-target_from None piece = label piece
-
-abbrev pub target : List ℕ → Result Target AsmCause
-target piece = target_from (number_of piece) piece
+abbrev pub target : ℕ → List ℕ → Result Target AsmCause
+target reach piece = target_from reach (number_of piece) piece
 
 -- a number, and a register in parentheses
 abbrev pub in_parentheses : List ℕ → Result ℕ AsmCause
@@ -113,17 +114,17 @@ register_and_address text =
     and_then (two (pieces text)) (λ p.
     and_then (register p.0) (λ a. and_then (address p.1) (λ at. Ok (a, at.0, at.1))))
 
-abbrev pub register_and_target : List ℕ → Result (ℕ × Target) AsmCause
-register_and_target text =
+abbrev pub register_and_target : ℕ → List ℕ → Result (ℕ × Target) AsmCause
+register_and_target reach text =
     and_then (two (pieces text)) (λ p.
-    and_then (register p.0) (λ a. and_then (target p.1) (λ to. Ok (a, to))))
+    and_then (register p.0) (λ a. and_then (target reach p.1) (λ to. Ok (a, to))))
 
-abbrev pub registers_and_target : List ℕ → Result (ℕ × ℕ × Target) AsmCause
-registers_and_target text =
+abbrev pub registers_and_target : ℕ → List ℕ → Result (ℕ × ℕ × Target) AsmCause
+registers_and_target reach text =
     and_then (three (pieces text)) (λ p.
     and_then (register p.0) (λ a.
     and_then (register p.1) (λ b.
-    and_then (target p.2) (λ to. Ok (a, b, to)))))
+    and_then (target reach p.2) (λ to. Ok (a, b, to)))))
 
 abbrev pub register_and_label : List ℕ → Result (ℕ × Target) AsmCause
 register_and_label text =

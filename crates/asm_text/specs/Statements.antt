@@ -86,13 +86,21 @@ auipc_statement text =
     and_then (ranged 0 (2 ^ 20 - 1) r.1)
     (λ upper. Ok (statement.One (instr.Auipc r.0 (upper % 2 ^ 20)))))
 
+-- how far a branch and `jal` reach back
+abbrev pub branch_reach : ℕ
+branch_reach = 2 ^ 12
+
+abbrev pub jump_reach : ℕ
+jump_reach = 2 ^ 20
+
 unfoldable pub branch_statement : BranchOp → List ℕ → Result Statement AsmCause
 branch_statement op text =
-    and_then (registers_and_target text) (λ r. Ok (statement.Branch op r.0 r.1 r.2))
+    and_then (registers_and_target branch_reach text)
+    (λ r. Ok (statement.Branch op r.0 r.1 r.2))
 
 unfoldable pub jal_statement : List ℕ → Result Statement AsmCause
 jal_statement text =
-    and_then (register_and_target text) (λ r. Ok (statement.Jump r.0 r.1))
+    and_then (register_and_target jump_reach text) (λ r. Ok (statement.Jump r.0 r.1))
 
 -- ---- short forms
 

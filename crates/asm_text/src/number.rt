@@ -1,7 +1,7 @@
 //! Numbers.
 
 ghost use Rattle.std.specs.Prelude.{◌≡◌, ◌≤◌, ◌^◌, IfSome};
-ghost use Rattle.asm_text.specs.Numbers.{magnitude, number_of};
+ghost use Rattle.asm_text.specs.Numbers.{magnitude, number_of, is_offset};
 
 /// No place takes so great a number. All greater ones count as this one.
 const TOO_GREAT: u64 = 0x1_0000_0000;
@@ -55,4 +55,13 @@ pub fn number_of(operand: &[u8]) -> Option<Number>
             magnitude: magnitude(10, digits)?,
         }),
     }
+}
+
+/// Whether a number is an even offset that reaches less than so far, or just so far back.
+pub fn is_offset(reach: u64, number: Number) -> bool
+    requires { 2 ≤ reach }
+    ensures { result ≡ is_offset reach number }
+{
+    let most = if number.is_negative { reach } else { reach - 2 };
+    number.magnitude <= most && number.magnitude % 2 == 0
 }

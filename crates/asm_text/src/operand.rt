@@ -7,7 +7,7 @@ ghost use Rattle.asm_text.specs.Views.{Gives};
 
 use crate::bytes::{is_name, trimmed};
 use crate::fault::AsmCause;
-use crate::number::{Number, number_of};
+use crate::number::{Number, is_offset, number_of};
 use crate::register::register_named;
 use memchr::memchr;
 use rv_decode::Register;
@@ -128,16 +128,12 @@ pub fn label(piece: &[u8]) -> Result<Target, AsmCause>
     }
 }
 
-/// A number as an offset.
-fn offset(number: Number) -> Result<Target, AsmCause>
-    ensures { result ≡ offset number }
+/// A number as an offset of a jump that reaches so far back.
+fn offset(reach: u64, number: Number) -> Result<Target, AsmCause>
+    requires { 2 ≤ reach }
+    ensures { result ≡ offset reach number }
 {
-    let most = if number.is_negative {
-        0x8000_0000
-    } else {
-        0xffff_ffff
-    };
-    if number.magnitude <= most {
+    if is_offset(reach, number) {
         Ok(Target::Offset(number))
     } else {
         Err(AsmCause::Range)
@@ -145,11 +141,12 @@ fn offset(number: Number) -> Result<Target, AsmCause>
 }
 
 /// An offset or a label.
-fn jump_target(piece: &[u8]) -> Result<Target, AsmCause>
-    ensures { result ≡ target piece.now }
+fn jump_target(reach: u64, piece: &[u8]) -> Result<Target, AsmCause>
+    requires { 2 ≤ reach }
+    ensures { result ≡ target reach piece.now }
 {
     match number_of(piece) {
-        Some(number) => offset(number),
+        Some(number) => offset(reach, number),
         None => label(piece),
     }
 }
@@ -222,18 +219,23 @@ pub fn register_and_address(text: &[u8]) -> Result<(Register, Number, Register),
     Ok((register, offset, base))
 }
 
-pub fn register_and_target(text: &[u8]) -> Result<(Register, Target), AsmCause>
-    ensures { result ≡ register_and_target text.now }
+pub fn register_and_target(reach: u64, text: &[u8]) -> Result<(Register, Target), AsmCause>
+    requires { 2 ≤ reach }
+    ensures { result ≡ register_and_target reach text.now }
 {
     let (a, b) = two(text)?;
-    Ok((register(a)?, jump_target(b)?))
+    Ok((register(a)?, jump_target(reach, b)?))
 }
 
-pub fn registers_and_target(text: &[u8]) -> Result<(Register, Register, Target), AsmCause>
-    ensures { result ≡ registers_and_target text.now }
+pub fn registers_and_target(
+    reach: u64,
+    text: &[u8],
+) -> Result<(Register, Register, Target), AsmCause>
+    requires { 2 ≤ reach }
+    ensures { result ≡ registers_and_target reach text.now }
 {
     let (a, b, c) = three(text)?;
-    Ok((register(a)?, register(b)?, jump_target(c)?))
+    Ok((register(a)?, register(b)?, jump_target(reach, c)?))
 }
 
 pub fn register_and_label(text: &[u8]) -> Result<(Register, Target), AsmCause>

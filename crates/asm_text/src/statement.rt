@@ -19,6 +19,12 @@ use rv_decode::{
     Bits, BranchOp, ImmediateOp, Instr, LoadOp, MulDivOp, Register, RegisterOp, ShiftOp, StoreOp,
 };
 
+/// How far a branch reaches back.
+pub const BRANCH_REACH: u64 = 0x1000;
+
+/// How far `jal` reaches back.
+pub const JUMP_REACH: u64 = 0x10_0000;
+
 /// What a line says behind its labels.
 #[derive(Clone, Copy, Debug, PartialEq, Eq)]
 pub enum Statement {
@@ -178,7 +184,7 @@ fn auipc_statement(text: &[u8]) -> Result<Statement, AsmCause>
 fn branch_statement(op: BranchOp, text: &[u8]) -> Result<Statement, AsmCause>
     ensures { result ≡ branch_statement op text.now }
 {
-    let (rs1, rs2, target) = registers_and_target(text)?;
+    let (rs1, rs2, target) = registers_and_target(BRANCH_REACH, text)?;
     Ok(Statement::Branch {
         op,
         rs1,
@@ -191,7 +197,7 @@ fn branch_statement(op: BranchOp, text: &[u8]) -> Result<Statement, AsmCause>
 fn jal_statement(text: &[u8]) -> Result<Statement, AsmCause>
     ensures { result ≡ jal_statement text.now }
 {
-    let (rd, target) = register_and_target(text)?;
+    let (rd, target) = register_and_target(JUMP_REACH, text)?;
     Ok(Statement::Jump { rd, target })
 }
 

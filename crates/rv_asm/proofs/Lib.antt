@@ -1,6 +1,8 @@
 pub mod EncodingLaws
 pub mod LabelLaws
 pub mod LineLaws
+pub mod LineEnds
+pub mod LoadLines
 pub mod SizeLaws
 pub mod AssemblyLaws
 pub mod NameLaws

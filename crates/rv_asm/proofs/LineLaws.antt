@@ -10,7 +10,7 @@ use Rattle.memchr.specs.Find.{IsFirstByte, is_byte}
 use Rattle.asm_text.proofs.Finds.{found, before_found, after_found}
 use Rattle.asm_text.proofs.Pieces.{some_part}
 
-ended : (part : List ℕ) (parts : List (List ℕ)) → (parts ≡ [] → ⊥) → lines_of_parts (part ∷ parts) ≡ strip_carriage_return part ∷ lines_of_parts parts
+pub ended : (part : List ℕ) (parts : List (List ℕ)) → (parts ≡ [] → ⊥) → lines_of_parts (part ∷ parts) ≡ strip_carriage_return part ∷ lines_of_parts parts
 ended part [] some = absurd (some refl)
 ended part (next ∷ more) some = refl
 

@@ -13,9 +13,9 @@ use Rattle.asm_text.specs.declared.mnemonic.Width.TheVariants.{Word}
 use Rattle.asm_text.specs.declared.statement.Statement.{Statement}
 use Rattle.asm_text.specs.declared.statement.Statement.TheVariants as statement
 use Rattle.asm_text.specs.Lines.{statement_text, operand_text}
-use Rattle.asm_text.specs.Numbers.{number, number_of, is_within}
+use Rattle.asm_text.specs.Numbers.{number, number_of, is_offset}
 use Rattle.asm_text.specs.Operands.{pieces, last_of}
-use Rattle.asm_text.specs.Statements.{statement_of}
+use Rattle.asm_text.specs.Statements.{branch_reach, jump_reach, statement_of}
 use Rattle.rv_asm.specs.declared.place.Place.{Place}
 use Rattle.rv_asm.specs.declared.table.Table.{Table}
 use Rattle.rv_asm.specs.Places.{is_misplaced, after_statement, place_after}
@@ -40,19 +40,24 @@ here table place = address_of table.data_start (spot_of place)
 abbrev pub distance : ℕ → ℕ → Number
 distance from to = if nat_le from to then number false (to - from) else number true (from - to)
 
+-- how far it is to the label that the last operand names, unless it isn't there
+abbrev pub label_offset : Table → Place → List ℕ → Option Number
+label_offset table place text =
+    option_map (distance (here table place)) (value table (last_of (pieces text)))
+
 -- how far a jump goes, unless it goes to a label that isn't there
 abbrev pub jump_offset : Table → Place → List ℕ → Target → Option Number
 jump_offset table place text (Offset n) = Some n
-jump_offset table place text Label =
-    option_map (distance (here table place)) (value table (last_of (pieces text)))
-
--- an even offset that reaches less than so far, or just so far back
-abbrev pub is_offset : ℕ → Number → Bool
-is_offset reach n = is_within reach (reach - 2) n && n.magnitude % 2 == 0
+jump_offset table place text Label = label_offset table place text
 
 abbrev pub offset_cause : ℕ → Option Number → Option AsmCause
 offset_cause reach None = Some cause.UnknownLabel
 offset_cause reach (Some n) = if is_offset reach n then None else Some cause.Range
+
+-- a number that is an offset fits where it stands, or the line says nothing that can be read
+abbrev pub target_cause : ℕ → Table → Place → List ℕ → Target → Option AsmCause
+target_cause reach table place text (Offset n) = None
+target_cause reach table place text Label = offset_cause reach (label_offset table place text)
 
 abbrev pub unknown : Bool → Option AsmCause
 unknown is = if is then Some cause.UnknownLabel else None
@@ -61,12 +66,12 @@ unknown is = if is then Some cause.UnknownLabel else None
 abbrev pub is_unknown : Table → List ℕ → Bool
 is_unknown table piece = is_none (number_of piece) && is_none (value table piece)
 
--- an offset that doesn't fit, or a label that isn't there
+-- a label that isn't there, or to which an offset doesn't fit
 unfoldable pub label_cause : Table → Place → List ℕ → Statement → Option AsmCause
 label_cause table place text (statement.Jump rd target) =
-    offset_cause (2 ^ 20) (jump_offset table place text target)
+    target_cause jump_reach table place text target
 label_cause table place text (statement.Branch op rs1 rs2 target) =
-    offset_cause (2 ^ 12) (jump_offset table place text target)
+    target_cause branch_reach table place text target
 label_cause table place text (statement.Address rd) =
     unknown (is_none (value table (last_of (pieces text))))
 label_cause table place text (statement.Values Word) =

@@ -4,12 +4,15 @@ ghost use Rattle.std.specs.Prelude.{◌≡◌, ◌+◌, ◌<◌, ◌≤◌, ◌^
 ghost use Rattle.std.specs.List.{list_any};
 ghost use Rattle.asm_text.specs.Operands.{pieces};
 ghost use Rattle.rv_asm.specs.Places.{offset, after_statement};
-ghost use Rattle.rv_asm.specs.Lines.{here, distance, jump_offset, is_offset, offset_cause, unknown, is_unknown, label_cause, doubled_cause, section_cause, is_too_large, size_cause, statement_cause};
+ghost use Rattle.rv_asm.specs.Lines.{here, distance, label_offset, jump_offset, offset_cause, target_cause, unknown, is_unknown, label_cause, doubled_cause, section_cause, is_too_large, size_cause, statement_cause};
 
 use crate::place::Place;
 use crate::sizes::{after_statement, is_misplaced, spot_of};
 use crate::table::{Table, address_of};
-use asm_text::{AsmCause, Number, Statement, Target, Width, first_piece, last_piece, number_of};
+use asm_text::{
+    AsmCause, BRANCH_REACH, JUMP_REACH, Number, Statement, Target, Width, first_piece, is_offset,
+    last_piece, number_of,
+};
 
 /// How far it is from one address to another.
 fn distance(from: u64, to: u64) -> Number
@@ -28,6 +31,16 @@ fn distance(from: u64, to: u64) -> Number
     }
 }
 
+/// How far it is to the label that the last operand names, unless it isn't there.
+fn label_offset(table: &Table<'_>, place: Place, text: &[u8]) -> Option<Number>
+    requires start { table.now.data_start < 2 ^ 63 }
+    requires offset { offset place < 2 ^ 62 }
+    ensures { result ≡ label_offset table.now place text.now }
+{
+    let to = table.value(last_piece(text))?;
+    Some(distance(address_of(table.data_start, spot_of(place)), to))
+}
+
 /// How far a jump goes, unless it goes to a label that isn't there.
 pub fn jump_offset(table: &Table<'_>, place: Place, text: &[u8], target: Target) -> Option<Number>
     requires start { table.now.data_start < 2 ^ 63 }
@@ -36,20 +49,8 @@ pub fn jump_offset(table: &Table<'_>, place: Place, text: &[u8], target: Target)
 {
     match target {
         Target::Offset(number) => Some(number),
-        Target::Label => {
-            let to = table.value(last_piece(text))?;
-            Some(distance(address_of(table.data_start, spot_of(place)), to))
-        }
+        Target::Label => label_offset(table, place, text),
     }
-}
-
-/// Whether an offset is even and reaches less than so far, or just so far back.
-fn is_offset(reach: u64, number: Number) -> bool
-    requires { 2 ≤ reach }
-    ensures { result ≡ is_offset reach number }
-{
-    let most = if number.is_negative { reach } else { reach - 2 };
-    number.magnitude <= most && number.magnitude % 2 == 0
 }
 
 fn offset_cause(reach: u64, offset: Option<Number>) -> Option<AsmCause>
@@ -60,6 +61,25 @@ fn offset_cause(reach: u64, offset: Option<Number>) -> Option<AsmCause>
         Some(number) if is_offset(reach, number) => None,
         Some(_) => Some(AsmCause::Range),
         None => Some(AsmCause::UnknownLabel),
+    }
+}
+
+/// A number that is an offset fits where it stands, or the line says nothing that can be read.
+fn target_cause(
+    reach: u64,
+    table: &Table<'_>,
+    place: Place,
+    text: &[u8],
+    target: Target,
+) -> Option<AsmCause>
+    requires reach { 2 ≤ reach }
+    requires start { table.now.data_start < 2 ^ 63 }
+    requires offset { offset place < 2 ^ 62 }
+    ensures { result ≡ target_cause reach table.now place text.now target }
+{
+    match target {
+        Target::Offset(_) => None,
+        Target::Label => offset_cause(reach, label_offset(table, place, text)),
     }
 }
 
@@ -99,7 +119,7 @@ fn has_unknown(table: &Table<'_>, text: &[u8]) -> bool
     }
 }
 
-/// An offset that doesn't fit, or a label that isn't there.
+/// A label that isn't there, or to which an offset doesn't fit.
 #[tactic(auto, unfolding(crate::specs::Lines::label_cause))]
 fn label_cause(
     table: &Table<'_>,
@@ -112,11 +132,9 @@ fn label_cause(
     ensures { result ≡ label_cause table.now place text.now statement.now }
 {
     match statement {
-        Statement::Jump { target, .. } => {
-            offset_cause(0x10_0000, jump_offset(table, place, text, *target))
-        }
+        Statement::Jump { target, .. } => { target_cause(JUMP_REACH, table, place, text, *target) }
         Statement::Branch { target, .. } => {
-            offset_cause(0x1000, jump_offset(table, place, text, *target))
+            target_cause(BRANCH_REACH, table, place, text, *target)
         }
         Statement::Address { .. } => unknown(table.value(last_piece(text)).is_none()),
         Statement::Values(Width::Word) => unknown(has_unknown(table, text)),
