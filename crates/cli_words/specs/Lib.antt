@@ -1,4 +1,5 @@
 pub mod Parts
 pub mod Numbers
 pub mod Orders
+pub mod Working
 pub mod Views
