@@ -2,7 +2,7 @@
 use Rattle.std.specs.Prelude.{ℕ, ◌+◌, ◌==◌, ◌||◌, Bool, List, ◌∷◌, length, Option, Some, None, is_some, unwrap_or, nat_le, if◌then◌else◌}
 use Rattle.std.specs.Option.{option_or}
 use Rattle.sl_base.specs.declared.call.Call.{Call}
-use Rattle.sl_base.specs.World.{write_number, is_error}
+use Rattle.sl_base.specs.Calls.{write_number, is_error}
 use Rattle.call_log.specs.declared.entry.CallEntry.{CallEntry}
 use Rattle.call_log.specs.declared.ask.Ask.{Ask}
 use Rattle.call_log.specs.declared.ask.CallDiff.{CallDiff}

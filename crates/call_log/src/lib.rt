@@ -15,3 +15,4 @@ pub use ask::{Ask, CallDiff};
 pub use breaks::{Break, BreakKind};
 pub use difference::first_difference;
 pub use entry::{CallEntry, End};
+pub use sl_base::Call;

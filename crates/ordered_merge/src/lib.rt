@@ -8,5 +8,6 @@ mod ordering;
 #[cfg(test)]
 mod tests;
 
+pub use analysers::{Merged, Row};
 pub use laws::merged_means;
 pub use merging::merge;

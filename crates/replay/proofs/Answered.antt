@@ -6,7 +6,7 @@ use Rattle.std.proofs.Common.{◌≡◌, ℕ, ◌+◌, ◌-◌, ◌/◌, ◌<◌
 use Rattle.std.proofs.lemmas.Bool.{cases_lt, ltb-true, and_from, and_parts}
 use Rattle.std.proofs.lemmas.List.Filters.{length-filter_both}
 use Rattle.sl_base.specs.declared.call.Call.{Call}
-use Rattle.sl_base.specs.World.{write_number, error_result, is_error}
+use Rattle.sl_base.specs.Calls.{write_number, error_result, is_error}
 use Rattle.sl_model.specs.Pages.{Pages, bytes_at}
 use Rattle.sl_model.proofs.PagesLaws.{is_some-bytes_at-add}
 use Rattle.sl_model.specs.Mapping.{map_pages}

@@ -21,7 +21,7 @@ use Rattle.sl_model.specs.Heap.{is_break}
 use Rattle.replay.specs.Calls.{call_of, ask_of, exited, answered, is_outside, data_done, call_done, brk_done, brk_mapped_end, arg, buffer, brk_number}
 use Rattle.replay.specs.Run.{Onward, Goes, Breaks, onward, onward_in, stepped, asked, called, matched}
 use Rattle.sl_base.specs.declared.call.Call.{Call}
-use Rattle.sl_base.specs.World.{write_number}
+use Rattle.sl_base.specs.Calls.{write_number}
 use Rattle.sl_model.proofs.Mapping.{is_among, get-map_pages, is_some-or_zeros, AreWhole-map_pages}
 use Rattle.sl_model.proofs.WholePages.{AreWhole-set_bytes}
 use Rattle.sl_model.proofs.Steps.{IsNext-register, IsNext-place, IsNext-step}

@@ -1,7 +1,7 @@
 -- System calls in a replay: what a program asks, and the state after an answer.
 use Rattle.std.specs.Prelude.{◌≡◌, ℕ, ◌+◌, ◌-◌, ◌/◌, ◌==◌, ◌||◌, Bool, List, [], ◌∷◌, min, max, map, Option, Some, None, is_some, unwrap_or, slice_index, if◌then◌else◌}
 use Rattle.sl_base.specs.declared.call.Call.{Call}
-use Rattle.sl_base.specs.World.{read_number, write_number, getrandom_number, error_result}
+use Rattle.sl_base.specs.Calls.{read_number, write_number, getrandom_number, error_result}
 use Rattle.sl_model.specs.declared.run_state.RunState.TheVariants.{Exited}
 use Rattle.sl_model.specs.Pages.{bytes_at, set_bytes}
 use Rattle.sl_model.specs.State.{State, register}
