@@ -1,7 +1,6 @@
 //! Recordings whose bytes and values were worked by hand from the table of the format.
 
 mod accepted;
-mod broken;
 mod files;
 mod fronts;
 mod large;

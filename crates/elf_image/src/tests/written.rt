@@ -3,8 +3,7 @@
 ghost use Rattle.elf_image.specs.Written.{IsWritable};
 ghost use Rattle.std.specs.Prelude.{IfOk};
 
-use super::files::read;
-use crate::{Image, Segment, write_image};
+use crate::{Image, Segment, read_image, symbol, write_image};
 use sl_base::{Seq, Symbol};
 use std::alloc::Global;
 use std::test::Fail;
@@ -62,14 +61,18 @@ fn small_file(rt: HostRuntime) -> Result<(), Fail> {
     )?;
     let file = write_image(alloc, &small(alloc)?)?;
     assert_eq!(rt; file, want);
-    let image = read(alloc, &file)?;
-    let ([segment], [symbol]) = (image.segments.as_slice(), image.symbols.as_slice()) else {
+    assert!(rt; file.len() < 1000);
+    let image = read_image(alloc, &file)?;
+    assert_eq!(rt; symbol(&image, b"go"), Some(0x10002));
+    assert_eq!(rt; symbol(&image, b"g"), None);
+    assert_eq!(rt; symbol(&image, b""), None);
+    let ([segment], [named]) = (image.segments.as_slice(), image.symbols.as_slice()) else {
         return Err("one segment and one symbol".into());
     };
     assert_eq!(rt; image.entry, 0x10001);
     assert_eq!(rt; (segment.vaddr, segment.memsz), (0x10000, 4));
     assert_eq!(rt; segment.bytes.as_slice(), [0xa, 0xb, 0xc].as_slice());
-    assert_eq!(rt; symbol.name.as_slice(), b"go".as_slice());
-    assert_eq!(rt; symbol.value, 0x10002);
+    assert_eq!(rt; named.name.as_slice(), b"go".as_slice());
+    assert_eq!(rt; named.value, 0x10002);
     Ok(())
 }

@@ -1,20 +1,20 @@
 //! Recordings that end too early.
 
-use super::broken::fault_of;
-use super::files::made;
+use super::files::each_field;
 use crate::RecCause::Short;
-use crate::RecFault;
+use crate::{RecFault, read_recording};
+use sl_base::Refused;
 use std::alloc::Global;
 use std::process::Abort;
 use std::test::Fail;
 
-/// A recording with each kind of field, 8,605 bytes: the arguments `ab` and one of no bytes, a call
-/// that writes `hi` and a line feed, a checkpoint at count 2 that lists page 17, and an end that
-/// lists it with other bytes.
-pub const EACH_FIELD: &str =
-    "saved; word 352 1; page 356 17 8; word 192 1; page 196 17 7; word 36 1; \
-    put 40 64 0 0 0 1 0 0 0 0 16 1 0 3 0 0 0; fill 56 0 12; put 68 3 0 0 0 3 0 0 0 104 105 10; \
-    word 32 2; put 36 2 0 0 0 97 98 0 0 0 0";
+/// The fault that a file is refused with.
+pub fn fault_of(alloc: Global, file: &[u8]) -> Option<RecFault> {
+    match read_recording(alloc, file) {
+        Err(Refused::Fault(fault)) => Some(fault),
+        _ => None,
+    }
+}
 
 /// A file that ends in or before the field of `size` bytes at `place` is short there.
 fn check_field(rt: &impl Abort, alloc: Global, file: &[u8], place: usize, size: usize) {
@@ -30,7 +30,7 @@ fn check_field(rt: &impl Abort, alloc: Global, file: &[u8], place: usize, size: 
 
 #[test]
 fn each_field_may_be_short(rt: HostRuntime) -> Result<(), Fail> {
-    let file = made(rt.alloc(), EACH_FIELD)?;
+    let file = each_field(rt.alloc())?;
     let mut place = 0;
     for (fields, size) in [
         // Name and version; kind, address and length of the image; the image.

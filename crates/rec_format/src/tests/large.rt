@@ -4,7 +4,7 @@ ghost use Rattle.std.specs.Prelude.{◌≡◌, ◌+◌, ◌≤◌, length, map, 
 ghost use Rattle.std.specs.List.{AllByRecursion};
 ghost use Rattle.rec_format.specs.Rules.{IsListedPage, IsCheckpoint, IsRecordingValue, Rise, last_or, number_of};
 
-use super::broken::fault_of;
+use super::fronts::fault_of;
 use crate::RecCause::{Magic, TooLarge};
 use crate::{CheckpointData, ListedPage, RecFault, Recording, write_recording};
 use call_log::End;
@@ -20,6 +20,12 @@ fn files_of_the_greatest_length(rt: HostRuntime) -> Result<(), Fail> {
         assert_eq!(rt; fault_of(alloc, &file), Some(RecFault { place, cause }));
         file.truncate(268_435_456);
     }
+    let fault = RecFault {
+        place: 204,
+        cause: TooLarge,
+    };
+    let printed = format!(in alloc; "{fault}")?;
+    assert_eq!(rt; printed.as_str(), "Too large at 204");
     Ok(())
 }
 

@@ -1,8 +1,7 @@
 //! What is read of recordings that were worked by hand.
 
 use super::accepted::written_back;
-use super::files::made;
-use super::fronts::EACH_FIELD;
+use super::files::{each_field, plain, saved};
 use crate::{CheckpointData, ListedPage, Recording, read_recording};
 use call_log::End;
 use std::process::Abort;
@@ -35,7 +34,7 @@ fn check_program(rt: &impl Abort, rec: &Recording) {
 #[test]
 fn no_checkpoint(rt: HostRuntime) -> Result<(), Fail> {
     let alloc = rt.alloc();
-    let file = made(alloc, "plain")?;
+    let file = plain(alloc)?;
     assert_eq!(rt; file.len(), 204);
     let rec = read_recording(alloc, &file)?;
     check_program(&rt, &rec);
@@ -47,7 +46,7 @@ fn no_checkpoint(rt: HostRuntime) -> Result<(), Fail> {
 #[test]
 fn a_checkpoint(rt: HostRuntime) -> Result<(), Fail> {
     let alloc = rt.alloc();
-    let file = made(alloc, "saved")?;
+    let file = saved(alloc)?;
     assert_eq!(rt; file.len(), 356);
     let rec = read_recording(alloc, &file)?;
     check_program(&rt, &rec);
@@ -68,9 +67,9 @@ fn check_page(rt: &impl Abort, pages: &[ListedPage], byte: u8) {
 }
 
 #[test]
-fn each_field(rt: HostRuntime) -> Result<(), Fail> {
+fn every_field(rt: HostRuntime) -> Result<(), Fail> {
     let alloc = rt.alloc();
-    let file = made(alloc, EACH_FIELD)?;
+    let file = each_field(alloc)?;
     let rec = read_recording(alloc, &file)?;
     check_program(&rt, &rec);
     let args = rec.args.as_slice();
