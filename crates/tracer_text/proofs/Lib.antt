@@ -1,2 +1,3 @@
 mod Skips
 mod Within
+mod LongestRuns

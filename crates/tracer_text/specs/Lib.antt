@@ -1,3 +1,4 @@
 pub mod Tokens
+pub mod Runs
 pub mod FirstPass
 pub mod Nodes
