@@ -1,1 +1,3 @@
 mod MeaningRows
+mod Units
+mod Unfolded
