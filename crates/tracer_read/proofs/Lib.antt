@@ -20,3 +20,7 @@ mod GrammarItems
 mod WrittenNodes
 mod WrittenPasses
 mod GrammarWhole
+mod FirstFault
+mod ToldExpressions
+mod ToldStatements
+mod ToldScripts

@@ -1,14 +1,17 @@
 -- Laws of what is read, in the subject's own words.
-use Rattle.std.specs.Prelude.{◌≡◌, ℕ, ◌+◌, List, length, is_some, Ok, IfOk, if◌then◌else◌}
+use Rattle.std.specs.Prelude.{◌≡◌, ℕ, ◌+◌, List, length, is_some, All, Ok, IfOk, MatchResult, if◌then◌else◌}
 use Rattle.sl_base.specs.declared.symbol.Symbol.{Symbol}
 use Rattle.tracer_lang.specs.Tree.{Statements, no_statements, statement, ScriptTree}
 use Rattle.tracer_text.specs.declared.token.Token.{Token}
+use Rattle.tracer_text.specs.FirstPass.{first_pass}
 use Rattle.tracer_text.specs.Nodes.{Trees}
 use Rattle.tracer_read.specs.Parts.{part_count}
 use Rattle.tracer_read.specs.Expressions.{Around}
 use Rattle.tracer_read.specs.Statements.{in_order, steps_of}
 use Rattle.tracer_read.specs.Scripts.{Draft, items, nothing, script_of_text}
 use Rattle.tracer_read.specs.GrammarScripts.{IsSpelling}
+use Rattle.tracer_read.specs.Findings.{IsClean, IsFirstFault}
+use Rattle.tracer_read.specs.FindingsScripts.{script_nodes}
 
 abbrev pub statement_count : Statements → ℕ
 statement_count no_statements = 0
@@ -49,3 +52,13 @@ abbrev pub OneReading : Type 0
 OneReading =
     (text : List ℕ) (symbols : List Symbol) (script other : ScriptTree)
     → IsSpelling text symbols script → IsSpelling text symbols other → script ≡ other
+
+-- A text whose tokens pass the first pass is read exactly where no node has a fault. Else it is
+-- refused with the fault of the first node that has one, and of its causes with the first.
+abbrev pub FirstFaultIsTold : Type 0
+FirstFaultIsTold =
+    (text : List ℕ) (symbols : List Symbol) (tokens : List Token)
+    → first_pass text ≡ Ok tokens
+    → MatchResult (script_of_text text symbols)
+    (λ script. All IsClean (script_nodes text symbols tokens))
+    (λ fault. IsFirstFault (script_nodes text symbols tokens) fault)

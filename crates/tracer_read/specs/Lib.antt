@@ -11,4 +11,6 @@ pub mod Written
 pub mod Grammar
 pub mod GrammarStatements
 pub mod GrammarScripts
+pub mod Findings
+pub mod FindingsScripts
 pub mod Laws

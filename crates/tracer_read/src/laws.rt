@@ -1,6 +1,6 @@
 //! Laws of what is read.
 
-ghost use Rattle.tracer_read.specs.Laws.{EachStatementStays, EachListStays, SpellsWhatIsRead, ReadsWhatIsSpelled, OneReading};
+ghost use Rattle.tracer_read.specs.Laws.{EachStatementStays, EachListStays, SpellsWhatIsRead, ReadsWhatIsSpelled, OneReading, FirstFaultIsTold};
 
 /// A body has a statement for each of its lists: none is dropped.
 pub fn each_statement_stays()
@@ -25,4 +25,10 @@ pub fn reads_what_is_spelled()
 /// No text spells two scripts.
 pub fn one_reading()
     ensures { OneReading }
+{}
+
+/// A text is refused with the fault of its first node that has one, in order of first bytes, and
+/// of that node's causes with the first. It is read exactly where no node has a fault.
+pub fn first_fault_is_told()
+    ensures { FirstFaultIsTold }
 {}

@@ -13,9 +13,7 @@ mod scripts;
 mod statements;
 
 pub use laws::{
-    each_list_stays, each_statement_stays, one_reading, reads_what_is_spelled, spells_what_is_read,
+    each_list_stays, each_statement_stays, first_fault_is_told, one_reading, reads_what_is_spelled,
+    spells_what_is_read,
 };
 pub use reading::read_script;
-
-#[cfg(test)]
-mod tests;
