@@ -5,3 +5,6 @@ mod Pieces
 pub mod Plain
 pub mod Meant
 pub mod Parted
+mod Due
+mod Risen
+mod Paired

@@ -11,3 +11,4 @@ pub mod BinLaws
 pub mod TreeLaws
 pub mod Meanings
 pub mod Plain
+pub mod StreamMeanings

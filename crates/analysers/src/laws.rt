@@ -1,9 +1,9 @@
 //! Laws of analyses: nothing is computed here. A crate above calls one where its proof needs it.
 
-ghost use Rattle.std.specs.Prelude.{◌≡◌, List, ◌++◌, fold};
+ghost use Rattle.std.specs.Prelude.{◌≡◌, List, [], ◌++◌, fold};
 ghost use Rattle.tracer_lang.specs.declared.record.Record.{Record};
 ghost use Rattle.analysers.specs.Parts.{folded};
-ghost use Rattle.analysers.specs.Streams.{told_along};
+ghost use Rattle.analysers.specs.Streams.{told_along, open_after, unopened};
 ghost use Rattle.std.specs.Prelude.{ℕ, ◌%◌, ◌^◌, length, sum, Option, slice_get, None, Some};
 ghost use Rattle.std.specs.List.{last_or};
 ghost use Rattle.analysers.specs.declared.part.Bin.{Bin};
@@ -11,6 +11,10 @@ ghost use Rattle.analysers.specs.declared.part.Part.TheVariants as part;
 ghost use Rattle.analysers.specs.declared.trees.TreeKind.TheVariants as tree;
 ghost use Rattle.analysers.specs.declared.kind.KindOf.{KindOf};
 ghost use Rattle.analysers.specs.Analyses.{part_of_all};
+ghost use Rattle.analysers.specs.declared.kind.KindOf.TheVariants as kind;
+ghost use Rattle.analysers.specs.Analyses.{analyse};
+ghost use Rattle.analysers.specs.StreamMeanings.{AreRowsOf, IsRise, IsChange, IsUnopened, IsUnclosed};
+ghost use Rattle.analysers.specs.declared.row.Row.{Row};
 ghost use Rattle.analysers.specs.Kinds.{kind_of};
 ghost use Rattle.analysers.specs.Plain.{IsPlain};
 ghost use Rattle.analysers.specs.Meanings.{words_at, IsLeast, IsGreatest, IsHistogram};
@@ -58,6 +62,22 @@ pub fn trees_mean()
         → part_of_all tree.First rs ≡ part.First (slice_get rs 0) }
     ensures last { (rs : List Record)
         → part_of_all tree.Last rs ≡ part.Last (last_or None rs) }
+{}
+
+/// A law: which records the streams tell, in plain words. `at_once` says that a record that closes
+/// nothing is told as it is fed: of every list of records, so also of the records up to any one.
+pub fn streams_mean()
+    ensures rising { (place : ℕ) (rs : List Record)
+        → AreRowsOf (IsRise place rs) rs (analyse (kind.Rising place) rs) }
+    ensures changes { (place : ℕ) (rs : List Record)
+        → AreRowsOf (IsChange place rs) rs (analyse (kind.Changes place) rs) }
+    ensures open { (opens closes : ℕ) (rs : List Record) → (first : List Row) × (last : List Row)
+        × (analyse (kind.Open opens closes) rs ≡ first ++ last)
+        × AreRowsOf (IsUnopened opens closes rs) rs first
+        × AreRowsOf (IsUnclosed opens closes rs) rs last }
+    ensures at_once { (opens closes : ℕ) (rs : List Record)
+        → AreRowsOf (IsUnopened opens closes rs) rs
+        (told_along (open_after opens closes) (unopened opens closes) [] rs) }
 {}
 
 /// A law: a word that names an analysis stands in a table of comma-separated values as it is, since

@@ -32,7 +32,7 @@ pub use folding::{feed_all, fold_records, join_values, push_passing, push_stream
 pub use joining::parts_of;
 pub use kind::{Kind, KindOf};
 pub use kind_text::read_kind;
-pub use laws::{folds_join, kinds_are_plain, streams_go_on, trees_mean};
+pub use laws::{folds_join, kinds_are_plain, streams_go_on, streams_mean, trees_mean};
 pub use local::{Local, LocalKind};
 pub use merged::Merged;
 pub use part::{Bin, Part};
