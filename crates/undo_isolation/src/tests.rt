@@ -23,37 +23,54 @@ fn script_of(alloc: Global, text: &str) -> Result<Option<Script>, Memory> {
     }
 }
 
-/// A machine after five instructions.
+/// The code of the worked program: it stores 0x01020304 at 0x11005 and exits.
+const CODE: [u32; 7] = [
+    0x0001_12b7,
+    0x0002_8293,
+    0x0102_0337,
+    0x3043_0313,
+    0x0062_a2a3,
+    0x05d0_0893,
+    0x0000_0073,
+];
+
+/// Its machine after five instructions, of which the last is the store.
 fn machine() -> Machine
     ensures { result.status ≡ RunState.Running }
 {
     let mut x = [0; 32];
-    x[2] = 0x11800;
-    x[10] = 5;
+    x[2] = 0x7fff_ffe0;
+    x[5] = 0x11000;
+    x[6] = 0x0102_0304;
     Machine {
         pc: 0x10014,
         x,
-        brk: 0x11000,
-        brk_end: 0x11000,
-        next_call: 2,
+        brk: 0x12000,
+        brk_end: 0x12000,
+        next_call: 0,
         status: RunState::Running,
         count: 5,
         layout: Layout {
-            brk_start: 0x11000,
-            heap_limit: 0x14000,
+            brk_start: 0x12000,
+            heap_limit: 0x0101_2000,
         },
     }
 }
 
-/// Its memory: the page at 0x11000, which is not dirty, with 0x01020304 at 0x11005, and the page at
-/// 0x12000, which is.
+/// Its memory then: the pages of the code, of the buffer at 0x11000 and of the stack, of which the
+/// store has changed that of the buffer.
 fn memory(alloc: Global) -> Result<Frames, Memory> {
     let mut frames = Frames::new(alloc)?;
+    frames.map_page(0x10)?;
     frames.map_page(0x11)?;
-    frames.map_page(0x12)?;
-    frames.store(0x11005, 4, 0x0102_0304);
+    frames.map_page(0x7ffff)?;
+    let mut address = 0x10000;
+    for word in CODE {
+        frames.store(address, 4, word);
+        address = u32::wrapping_add(address, 4);
+    }
     frames.clear_dirty();
-    frames.store(0x12000, 4, 9);
+    frames.store(0x11005, 4, 0x0102_0304);
     Ok(frames)
 }
 

@@ -19,8 +19,9 @@ use tracer_compile::compile;
 use tracer_lang::{Record, TracerEnd};
 use undo_bank::{Bank, BankBus};
 
-/// The tracer.
-const STORES: &str = "(at (addr 0) (store4 0x11004 0xffffffff) (store1 0x11005 0) (store2 0x11004 \
+/// The tracer, which fires after the program's store.
+const STORES: &str =
+    "(at (addr 0x10014) (store4 0x11004 0xffffffff) (store1 0x11005 0) (store2 0x11004 \
                       0x1234) (emit (load4 0x11004)))";
 
 /// Takes so many steps over a bank and a program's memory, or as many as are done.

@@ -10,3 +10,8 @@ pub map_page-requires-2-clause-few : goal.map_page-requires-2-clause-few
 map_page-requires-2-clause-few c =
     let none : len c.in_ok-frames.frames.pages ≡ 0 = ap len c.in_ok-frames.ensures.pages ∙ len-empty nat_cmp (List ℕ) in
     omega (arith, c.map_page.ensures.one_more)
+
+pub map_page-requires-3-clause-few : goal.map_page-requires-3-clause-few
+map_page-requires-3-clause-few c =
+    let none : len c.in_ok-frames.frames.pages ≡ 0 = ap len c.in_ok-frames.ensures.pages ∙ len-empty nat_cmp (List ℕ) in
+    omega (arith, c.map_page.ensures.one_more, c.map_page-2.ensures.one_more)
