@@ -1,7 +1,7 @@
 -- What is kept of a run as it goes on from one multiple of a distance to the next.
 use Rattle.std.specs.Prelude.{◌*◌, Option}
 use Rattle.std.proofs.Common.{◌≡◌, ℕ, ◌+◌, ◌≤◌, true, List, [], ◌∷◌, ◌++◌, Some, None, refl, sym, ap, subst, ◌∙◌, arith, append_assoc}
-use Rattle.sl_base.specs.declared.world.Reply.{Reply}
+use Rattle.outside.specs.World.{Heard}
 use Rattle.sl_model.specs.Pages.{Pages}
 use Rattle.sl_model.specs.State.{State, Fits}
 use Rattle.sl_model.specs.Marks.{MarksGoOn}
@@ -30,10 +30,10 @@ same_pages live f same = ap (λ (p : Pages). state_in (with_memory live (record 
 pub goes-with_memory : (live : Live) (f : MarkedPages) → f.pages ≡ live.memory.pages → GoesOn live → GoesOn (with_memory live f)
 goes-with_memory live f same goes = record { running = goes.running; next_call = goes.next_call; fits = subst Fits (same_pages live f same) goes.fits }
 
-pub comes-with_memory : (opened : State) (before now : Option (List Reply)) (live : Live) (f : MarkedPages) → f.pages ≡ live.memory.pages → ComesSoFar opened before now live → ComesSoFar opened before now (with_memory live f)
-comes-with_memory opened before now live f same comes = record {
+pub comes-with_memory : (opened : State) (heard : List Heard → Type 0) (live : Live) (f : MarkedPages) → f.pages ≡ live.memory.pages → ComesSoFar opened heard live → ComesSoFar opened heard (with_memory live f)
+comes-with_memory opened heard live f same comes = record {
   run = λ rec more is. comes.run rec more is ∙ ap (λ (s : State). Some s) (same_pages live f same);
-  answered = comes.answered;
+  world = comes.world;
   each = comes.each;
 }
 
@@ -49,10 +49,10 @@ module _ (opened : State) (every offers : ℕ) (old new : Live) (kept : Kept) wh
       }
 
 -- one more state is offered
-pub kept_next : (opened : State) (before now : Option (List Reply)) (every offers : ℕ) (live : Live) (kept kept' : Kept) (f : MarkedPages) → KeptTo opened every live kept offers → ComesSoFar opened before now live → live.machine.count ≡ (offers + 1) * every
+pub kept_next : (opened : State) (heard : List Heard → Type 0) (every offers : ℕ) (live : Live) (kept kept' : Kept) (f : MarkedPages) → KeptTo opened every live kept offers → ComesSoFar opened heard live → live.machine.count ≡ (offers + 1) * every
     → ((opening : Pages) (states : List State) → AreKept opening states kept live.memory → AreKept opening (states ++ state_in live ∷ []) kept' f)
     → KeptTo opened every (with_memory live f) kept' (offers + 1)
-kept_next opened before now every offers live kept kept' f old comes count offer = record {
+kept_next opened heard every offers live kept kept' f old comes count offer = record {
   are = λ rec more same.
       let here : state_at rec opened ((offers + 1) * every) ≡ state_in live = state_at-run rec opened ((offers + 1) * every) (state_in live) (sym (ap (run_from rec opened) count) ∙ comes.run rec more same) in
       let states : first_states rec opened every offers ++ state_in live ∷ [] ≡ first_states rec opened every (offers + 1) = ap (λ (s : State). first_states rec opened every offers ++ s ∷ []) (sym here) ∙ sym (first_states-more rec opened every offers) in

@@ -5,9 +5,11 @@ use Rattle.std.proofs.Common.{◌≡◌, ℕ, zero, suc, ◌+◌, ◌-◌, ◌^�
 use Rattle.std.proofs.lemmas.List.{length-take}
 use Rattle.std.proofs.lemmas.Bool.{cases_lt, or_right}
 use Rattle.sl_base.specs.declared.call.Call.{Call}
-use Rattle.sl_base.specs.World.{write_number, is_write, is_error, error_result, room_of, IsAnswer}
+use Rattle.sl_base.specs.Calls.{write_number, is_write, is_error, error_result}
+use Rattle.outside.specs.World.{room_of, taken_of, IsAnswer, heard_by}
 use Rattle.call_log.specs.declared.ask.Ask.{Ask}
 use Rattle.call_log.specs.declared.entry.CallEntry.{CallEntry}
+use Rattle.call_recorder.specs.Answered.{heard_of}
 use Rattle.call_log.specs.Differences.{field_diff, fields_diff, bytes_diff, is_answer, due_result, due_length, call_diff, answer_diff, first_difference}
 
 field_same : (field recorded due : ℕ) → recorded ≡ due → field_diff field recorded due ≡ None
@@ -75,3 +77,21 @@ due_fixed ask result fixed =
     (sym (ap (λ o. unwrap_or o (if is_answer ask.room result then result else ask.room)) fixed))
     (sym (ap (λ o. if is_some o then 0 else (if is_write ask.call then ask.room else (if is_error result then 0 else result))) fixed))
     (λ is. refl)
+
+-- ---- what the outside heard of it
+
+pub heard_write : (ask : Ask) (result : ℕ) (after : List ℕ) → is_write ask.call ≡ true → heard_by ask.call ask.give 0 result after ≡ heard_of ask (record { call = ask.call; result = result; bytes = ask.give })
+heard_write ask result after writes =
+    let none : take (taken_of ask.call result) after ≡ (if is_write ask.call then [] else ask.give) = ap (λ n. take n after) (none_taken (is_error result)) ∙ sym (ap (λ (b : Bool). if b then [] else ask.give) writes) in
+    let nowhere : 0 ≡ (if is_write ask.call then 0 else ask.room) = sym (ap (λ (b : Bool). if b then 0 else ask.room) writes) in
+    λ i. record { call = ask.call; give = ask.give; room = nowhere i; result = result; bytes = none i }
+  where
+    none_taken : (error : Bool) → (if error then 0 else (if is_write ask.call then 0 else result)) ≡ 0
+    none_taken true = refl
+    none_taken false = ap (λ (b : Bool). if b then 0 else result) writes
+
+pub heard_read : (ask : Ask) (size result : ℕ) (room bytes : List ℕ) → is_write ask.call ≡ false → size ≡ ask.room → bytes ≡ take (if is_error result then 0 else result) room → heard_by ask.call ask.give size result room ≡ heard_of ask (record { call = ask.call; result = result; bytes = bytes })
+heard_read ask size result room bytes reads same taken =
+    let some : take (taken_of ask.call result) room ≡ (if is_write ask.call then [] else bytes) = ap (λ (b : Bool). take (if is_error result then 0 else (if b then 0 else result)) room) reads ∙ sym taken ∙ sym (ap (λ (b : Bool). if b then [] else bytes) reads) in
+    let here : size ≡ (if is_write ask.call then 0 else ask.room) = same ∙ sym (ap (λ (b : Bool). if b then 0 else ask.room) reads) in
+    λ i. record { call = ask.call; give = ask.give; room = here i; result = result; bytes = some i }

@@ -13,6 +13,7 @@ mod Cuts
 mod Due
 mod Living
 mod Advancing
+pub mod Distances
 mod Whole
 mod Recuts
 mod Replaying

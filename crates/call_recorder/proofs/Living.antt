@@ -1,13 +1,14 @@
 -- A program goes on by an instruction, and so does every recording that begins with its calls.
-use Rattle.std.specs.Prelude.{if◌then◌else◌, ◌||◌, ◌==◌, ◌*◌, min, is_some, unwrap_or, slice_get, OnOk}
+use Rattle.std.specs.Prelude.{map, if◌then◌else◌, ◌||◌, ◌==◌, ◌*◌, min, is_some, unwrap_or, slice_get, OnOk}
 use Rattle.std.specs.List.{AllByRecursion, flat_map, range_with_len}
 use Rattle.std.specs.Option.{option_map, option_and_then}
 use Rattle.std.proofs.Common.{◌≡◌, ℕ, zero, suc, ◌+◌, ◌-◌, ◌^◌, ◌<◌, ◌≤◌, ◌⊎◌, inl, inr, ⊎_elim, Bool, true, false, List, [], ◌∷◌, ◌++◌, length, take, drop, Option, Some, None, refl, sym, ap, subst, ◌∙◌, arith, append_assoc, eqb-true}
-use Rattle.std.proofs.lemmas.List.{append-nil, length_push}
+use Rattle.std.proofs.lemmas.List.{append-nil, length_push, map-append}
 use Rattle.std.proofs.lemmas.Bool.{or_cases}
 use Rattle.sl_base.specs.declared.call.Call.{Call}
-use Rattle.sl_base.specs.declared.world.Reply.{Reply}
-use Rattle.sl_base.specs.World.{IsAsked, read_number, write_number, getrandom_number, is_write, error_result}
+use Rattle.outside.specs.World.{Heard, HearsAll}
+use Rattle.outside.proofs.Hearing.{hears_more}
+use Rattle.sl_base.specs.Calls.{IsAsked, read_number, write_number, getrandom_number, is_write, error_result}
 use Rattle.sl_model.specs.declared.run_state.RunState.{RunState}
 use Rattle.sl_model.specs.declared.run_state.RunState.TheVariants.{Running}
 use Rattle.sl_model.specs.Pages.{Pages, byte_at, bytes_at}
@@ -27,13 +28,13 @@ use Rattle.replay.specs.Run.{Goes, onward, run_from}
 use Rattle.replay.proofs.InRun.{Fits-onward}
 use Rattle.replay.proofs.Onward.{onward_stepped, onward_called, asked_exit, asked_due}
 use Rattle.call_recorder.specs.Recut.{state_at}
-use Rattle.call_recorder.specs.Answered.{Asked, entry_of, no_reply, cut_to, outside_call, asked_by, asked_at, asked_in, AreReplies, HaveAnswers}
+use Rattle.call_recorder.specs.Answered.{Asked, outside_call, asked_by, asked_at, asked_in, heard_of}
 use Rattle.call_recorder.specs.declared.live.Live.{Live}
 use Rattle.sl_model.proofs.Steps.{IsNext-step}
 use Rattle.sl_model.proofs.Fitting.{Fits-step}
 use Rattle.page_frames.specs.MarkedPages.{MarkedPages}
 use Rattle.rv_machine.specs.declared.machine.Machine.{Machine}
-use Rattle.call_recorder.specs.Lives.{GoesOn, RanTo, Begins, IsAsk, GivesEntry, AnswersAsk, state_in, ComesSoFar}
+use Rattle.call_recorder.specs.Lives.{GoesOn, RanTo, Begins, IsAsk, AnswersAsk, state_in, ComesSoFar}
 use Rattle.call_recorder.proofs.Runs.{run-zero, run-next, state_at-run}
 
 -- ---- what a program asks
@@ -114,33 +115,6 @@ module _ (s : State) where
 
 -- ---- one call more
 
-drop_none : {X : Type 0} (n : ℕ) → drop {A = X} n [] ≡ []
-drop_none zero = refl
-drop_none (suc n) = refl
-
-record AreRepliesOn (replies : List Reply) (calls : List Asked) (now : Option (List Reply)) : Type 0 where
-  pub left : now ≡ Some (drop (length calls) replies)
-  pub are : AreReplies replies calls
-
-one_more : (replies : List Reply) (calls : List Asked) (one : Asked) (now : Option (List Reply)) → AreReplies replies calls → GivesEntry (Some (drop (length calls) replies)) now one.ask one.entry → AreRepliesOn replies (calls ++ one ∷ []) now
-one_more [] [] one now are gives = record { left = gives.0; are = (gives.1, tt) }
-one_more (reply ∷ replies) [] one now are gives = record { left = gives.0; are = (gives.1, tt) }
-one_more [] (c ∷ calls) one now are gives =
-    let rest = one_more [] calls one now are.1 (subst (λ (l : List Reply). GivesEntry (Some l) now one.ask one.entry) (sym (drop_none (length calls))) gives) in
-    record { left = rest.left ∙ ap Some (drop_none (length (calls ++ one ∷ []))); are = (are.0, rest.are) }
-one_more (reply ∷ replies) (c ∷ calls) one now are gives =
-    let rest = one_more replies calls one now are.1 gives in
-    record { left = rest.left; are = (are.0, rest.are) }
-
-have_more : (before now next : Option (List Reply)) (calls : List Asked) (one : Asked) → HaveAnswers before now calls → GivesEntry now next one.ask one.entry → HaveAnswers before next (calls ++ one ∷ [])
-have_more None now next calls one have gives = tt
-have_more (Some replies) now next calls one have gives =
-    let on = one_more replies calls one next have.1 (subst (λ (o : Option (List Reply)). GivesEntry o next one.ask one.entry) have.0 gives) in
-    (on.left, on.are)
-
-have_same : (before now next : Option (List Reply)) (calls more : List Asked) → HaveAnswers before now calls → next ≡ now → more ≡ calls → HaveAnswers before next more
-have_same before now next calls more have same none = subst (λ (o : Option (List Reply)). HaveAnswers before o more) (sym same) (subst (λ (l : List Asked). HaveAnswers before now l) (sym none) have)
-
 asked_in-more : (rec : Recording) (opened : State) (n : ℕ) → asked_in rec opened (n + 1) ≡ asked_in rec opened n ++ asked_at rec (state_at rec opened n)
 asked_in-more rec opened n = by 0 n (omega arith)
   where
@@ -159,84 +133,97 @@ asked_in-more rec opened n = by 0 n (omega arith)
 
 -- ---- the run so far goes on
 
-module _ (opened : State) (before now next : Option (List Reply)) (old new : Live) (comes : ComesSoFar opened before now old) (one : new.machine.count ≡ old.machine.count + 1) where
-  abbrev was : State
-  was = state_in old
+-- the recorded calls as the outside heard them
+abbrev as_heard : List Asked → List Heard
+as_heard calls = map (λ asked. heard_of asked.ask asked.entry) calls
 
-  -- without a recorded call
-  goes_without : new.calls ≡ old.calls → next ≡ now → ((rec : Recording) → onward rec was ≡ Goes (state_in new)) → ((rec : Recording) → asked_at rec was ≡ []) → ComesSoFar opened before next new
-  goes_without calls replies goes none = record {
-    run = λ rec more is. ap (run_from rec opened) one ∙ run-next rec old.machine.count opened was (state_in new) (comes.run rec more (is ∙ ap (λ (l : List CallEntry). l ++ more) calls)) (goes rec);
-    answered = λ rec more is.
-        let there = is ∙ ap (λ (l : List CallEntry). l ++ more) calls in
-        have_same before now next (asked_in rec opened old.machine.count) (asked_in rec opened new.machine.count) (comes.answered rec more there) replies
-        (ap (asked_in rec opened) one
-        ∙ asked_in-more rec opened old.machine.count
-        ∙ ap (λ (l : List Asked). asked_in rec opened old.machine.count ++ l) (ap (asked_at rec) (state_at-run rec opened old.machine.count was (comes.run rec more there)) ∙ none rec)
-        ∙ append-nil (asked_in rec opened old.machine.count));
-    each = rw calls comes.each;
-  }
+module _ {X : Type 0} (hears : X → Heard → X → Type 0) (opened : State) (before now next : X) where
+  abbrev heard_now : List Heard → Type 0
+  heard_now = HearsAll hears before now
 
-  pub goes_stepped : was.status ≡ Running → step was ≡ Stepped (state_in new) → new.calls ≡ old.calls → next ≡ now → ComesSoFar opened before next new
-  unfolding asked_at
-  goes_stepped running steps calls replies =
-      goes_without calls replies (λ rec. onward_stepped rec was (state_in new) running steps) (λ rec. ap (asked_by rec was) steps)
+  abbrev heard_then : List Heard → Type 0
+  heard_then = HearsAll hears before next
 
-  pub goes_exited : was.status ≡ Running → step was ≡ Called → ask_of was ≡ None → state_in new ≡ exited was → new.calls ≡ old.calls → next ≡ now → ComesSoFar opened before next new
-  unfolding asked_at
-  goes_exited running stands asks is calls replies =
-      goes_without calls replies
-      (λ rec. onward_called rec was running stands ∙ asked_exit rec was asks ∙ ap (λ (t : State). Goes t) (sym is))
-      (λ rec. ap (asked_by rec was) stands ∙ ap (λ o. outside_call o (slice_get rec.calls was.next_call)) asks)
+  heard_same : (calls more : List Asked) → heard_now (as_heard calls) → next ≡ now → more ≡ calls → heard_then (as_heard more)
+  heard_same calls more all same none = subst (λ (x : X). HearsAll hears before x (as_heard more)) (sym same) (subst (λ (l : List Asked). heard_now (as_heard l)) (sym none) all)
 
-  -- with one
-  module _ (ask : Ask) (entry : CallEntry) (running : was.status ≡ Running) (stands : step was ≡ Called) (asks : ask_of was ≡ Some ask) (due : first_difference entry ask ≡ None)
-      (index : old.machine.next_call ≡ length old.calls) (calls : new.calls ≡ old.calls ++ entry ∷ []) (is : state_in new ≡ answered was entry) (fits : IsCallEntry entry) (gives : AnswersAsk ask.fixed now next ask entry) where
-    entry_there : (rec : Recording) (more : List CallEntry) → rec.calls ≡ new.calls ++ more → slice_get rec.calls was.next_call ≡ Some entry
-    entry_there rec more same = ap (slice_get rec.calls) index ∙ ap (λ (l : List CallEntry). slice_get l (length old.calls)) (same ∙ ap (λ (l : List CallEntry). l ++ more) calls ∙ append_assoc old.calls (entry ∷ []) more) ∙ at old.calls
-      where
-        at : (xs : List CallEntry) → slice_get (xs ++ entry ∷ more) (length xs) ≡ Some entry
-        at [] = refl
-        at (x ∷ xs) = at xs
+  heard_more : (calls : List Asked) (one : Asked) → heard_now (as_heard calls) → hears now (heard_of one.ask one.entry) next → heard_then (as_heard (calls ++ one ∷ []))
+  heard_more calls one all more = subst heard_then (sym (map-append (λ (asked : Asked). heard_of asked.ask asked.entry) calls (one ∷ []))) (hears_more hears before now next (as_heard calls) (heard_of one.ask one.entry) all more)
 
-    before_it : (rec : Recording) (more : List CallEntry) → rec.calls ≡ new.calls ++ more → rec.calls ≡ old.calls ++ entry ∷ more
-    before_it rec more same = same ∙ ap (λ (l : List CallEntry). l ++ more) calls ∙ append_assoc old.calls (entry ∷ []) more
+  module _ (old new : Live) (comes : ComesSoFar opened heard_now old) (one : new.machine.count ≡ old.machine.count + 1) where
+    abbrev was : State
+    was = state_in old
 
-    asked_now : (rec : Recording) (more : List CallEntry) → rec.calls ≡ new.calls ++ more → asked_at rec was ≡ (if is_some ask.fixed then [] else record { ask = ask; entry = entry } ∷ [])
-    unfolding asked_at
-    asked_now rec more same = ap (asked_by rec was) stands ∙ ap (λ o. outside_call o (slice_get rec.calls was.next_call)) asks ∙ ap (outside_call (Some ask)) (entry_there rec more same)
-
-    have_now : (fixed : Option ℕ) → AnswersAsk fixed now next ask entry → (asked : List Asked) → HaveAnswers before now asked → HaveAnswers before next (asked ++ (if is_some fixed then [] else record { ask = ask; entry = entry } ∷ []))
-    have_now (Some result) same asked have = have_same before now next asked (asked ++ []) have same (append-nil asked)
-    have_now None gives asked have = have_more before now next asked (record { ask = ask; entry = entry }) have gives
-
-    pub goes_answered : ComesSoFar opened before next new
-    goes_answered = record {
-      run = λ rec more same. ap (run_from rec opened) one ∙ run-next rec old.machine.count opened was (state_in new) (comes.run rec (entry ∷ more) (before_it rec more same))
-          (onward_called rec was running stands ∙ asked_due rec was ask entry asks (entry_there rec more same) due ∙ ap (λ (t : State). Goes t) (sym is));
-      answered = λ rec more same. subst (λ (l : List Asked). HaveAnswers before next l)
-          (sym (ap (asked_in rec opened) one
+    -- without a recorded call
+    goes_without : new.calls ≡ old.calls → next ≡ now → ((rec : Recording) → onward rec was ≡ Goes (state_in new)) → ((rec : Recording) → asked_at rec was ≡ []) → ComesSoFar opened heard_then new
+    goes_without calls same goes none = record {
+      run = λ rec more is. ap (run_from rec opened) one ∙ run-next rec old.machine.count opened was (state_in new) (comes.run rec more (is ∙ ap (λ (l : List CallEntry). l ++ more) calls)) (goes rec);
+      world = λ rec more is.
+          let there = is ∙ ap (λ (l : List CallEntry). l ++ more) calls in
+          heard_same (asked_in rec opened old.machine.count) (asked_in rec opened new.machine.count) (comes.world rec more there) same
+          (ap (asked_in rec opened) one
           ∙ asked_in-more rec opened old.machine.count
-          ∙ ap (λ (l : List Asked). asked_in rec opened old.machine.count ++ l) (ap (asked_at rec) (state_at-run rec opened old.machine.count was (comes.run rec (entry ∷ more) (before_it rec more same))) ∙ asked_now rec more same)))
-          (have_now ask.fixed gives (asked_in rec opened old.machine.count) (comes.answered rec (entry ∷ more) (before_it rec more same)));
-      each = rw calls (All-join IsCallEntry old.calls (entry ∷ []) comes.each (fits, tt));
+          ∙ ap (λ (l : List Asked). asked_in rec opened old.machine.count ++ l) (ap (asked_at rec) (state_at-run rec opened old.machine.count was (comes.run rec more there)) ∙ none rec)
+          ∙ append-nil (asked_in rec opened old.machine.count));
+      each = rw calls comes.each;
     }
 
+    pub goes_stepped : was.status ≡ Running → step was ≡ Stepped (state_in new) → new.calls ≡ old.calls → next ≡ now → ComesSoFar opened heard_then new
+    unfolding asked_at
+    goes_stepped running steps calls same =
+        goes_without calls same (λ rec. onward_stepped rec was (state_in new) running steps) (λ rec. ap (asked_by rec was) steps)
+
+    pub goes_exited : was.status ≡ Running → step was ≡ Called → ask_of was ≡ None → state_in new ≡ exited was → new.calls ≡ old.calls → next ≡ now → ComesSoFar opened heard_then new
+    unfolding asked_at
+    goes_exited running stands asks is calls same =
+        goes_without calls same
+        (λ rec. onward_called rec was running stands ∙ asked_exit rec was asks ∙ ap (λ (t : State). Goes t) (sym is))
+        (λ rec. ap (asked_by rec was) stands ∙ ap (λ o. outside_call o (slice_get rec.calls was.next_call)) asks)
+
+    -- with one
+    module _ (ask : Ask) (entry : CallEntry) (running : was.status ≡ Running) (stands : step was ≡ Called) (asks : ask_of was ≡ Some ask) (due : first_difference entry ask ≡ None)
+        (index : old.machine.next_call ≡ length old.calls) (calls : new.calls ≡ old.calls ++ entry ∷ []) (is : state_in new ≡ answered was entry) (fits : IsCallEntry entry) (gives : AnswersAsk hears ask.fixed now next ask entry) where
+      entry_there : (rec : Recording) (more : List CallEntry) → rec.calls ≡ new.calls ++ more → slice_get rec.calls was.next_call ≡ Some entry
+      entry_there rec more same = ap (slice_get rec.calls) index ∙ ap (λ (l : List CallEntry). slice_get l (length old.calls)) (same ∙ ap (λ (l : List CallEntry). l ++ more) calls ∙ append_assoc old.calls (entry ∷ []) more) ∙ at old.calls
+        where
+          at : (xs : List CallEntry) → slice_get (xs ++ entry ∷ more) (length xs) ≡ Some entry
+          at [] = refl
+          at (x ∷ xs) = at xs
+
+      before_it : (rec : Recording) (more : List CallEntry) → rec.calls ≡ new.calls ++ more → rec.calls ≡ old.calls ++ entry ∷ more
+      before_it rec more same = same ∙ ap (λ (l : List CallEntry). l ++ more) calls ∙ append_assoc old.calls (entry ∷ []) more
+
+      asked_now : (rec : Recording) (more : List CallEntry) → rec.calls ≡ new.calls ++ more → asked_at rec was ≡ (if is_some ask.fixed then [] else record { ask = ask; entry = entry } ∷ [])
+      unfolding asked_at
+      asked_now rec more same = ap (asked_by rec was) stands ∙ ap (λ o. outside_call o (slice_get rec.calls was.next_call)) asks ∙ ap (outside_call (Some ask)) (entry_there rec more same)
+
+      heard_with : (fixed : Option ℕ) → AnswersAsk hears fixed now next ask entry → (asked : List Asked) → heard_now (as_heard asked) → heard_then (as_heard (asked ++ (if is_some fixed then [] else record { ask = ask; entry = entry } ∷ [])))
+      heard_with (Some result) same asked all = heard_same asked (asked ++ []) all same (append-nil asked)
+      heard_with None gives asked all = heard_more asked (record { ask = ask; entry = entry }) all gives
+
+      pub goes_answered : ComesSoFar opened heard_then new
+      goes_answered = record {
+        run = λ rec more same. ap (run_from rec opened) one ∙ run-next rec old.machine.count opened was (state_in new) (comes.run rec (entry ∷ more) (before_it rec more same))
+            (onward_called rec was running stands ∙ asked_due rec was ask entry asks (entry_there rec more same) due ∙ ap (λ (t : State). Goes t) (sym is));
+        world = λ rec more same. subst (λ (l : List Asked). heard_then (as_heard l))
+            (sym (ap (asked_in rec opened) one
+            ∙ asked_in-more rec opened old.machine.count
+            ∙ ap (λ (l : List Asked). asked_in rec opened old.machine.count ++ l) (ap (asked_at rec) (state_at-run rec opened old.machine.count was (comes.run rec (entry ∷ more) (before_it rec more same))) ∙ asked_now rec more same)))
+            (heard_with ask.fixed gives (asked_in rec opened old.machine.count) (comes.world rec (entry ∷ more) (before_it rec more same)));
+        each = rw calls (All-join IsCallEntry old.calls (entry ∷ []) comes.each (fits, tt));
+      }
+
 -- nothing changes where a run ends without another instruction
-pub goes_nowhere : (opened : State) (before now next : Option (List Reply)) (old new : Live) → new ≡ old → next ≡ now → ComesSoFar opened before now old → ComesSoFar opened before next new
-goes_nowhere opened before now next old new same replies comes = subst (λ (o : Option (List Reply)). ComesSoFar opened before o new) (sym replies) (subst (λ (l : Live). ComesSoFar opened before now l) (sym same) comes)
+pub goes_nowhere : (opened : State) (heard : List Heard → Type 0) (old new : Live) → new ≡ old → ComesSoFar opened heard old → ComesSoFar opened heard new
+goes_nowhere opened heard old new same comes = subst (λ (l : Live). ComesSoFar opened heard l) (sym same) comes
 
 -- at the start
-pub comes_from_start : (before : Option (List Reply)) (live : Live) → live.calls ≡ [] → live.machine.count ≡ 0 → ComesSoFar (state_in live) before before live
-comes_from_start before live none start = record {
+pub comes_from_start : (heard : List Heard → Type 0) (live : Live) → heard [] → live.calls ≡ [] → live.machine.count ≡ 0 → ComesSoFar (state_in live) heard live
+comes_from_start heard live nothing none start = record {
   run = λ rec more is. ap (run_from rec (state_in live)) start ∙ run-zero rec (state_in live);
-  answered = λ rec more is. subst (λ (l : List Asked). HaveAnswers before before l) (sym (ap (asked_in rec (state_in live)) start)) (at_start before);
+  world = λ rec more is. subst (λ (l : List Asked). heard (as_heard l)) (sym (ap (asked_in rec (state_in live)) start)) nothing;
   each = rw none tt;
 }
-  where
-    at_start : (before : Option (List Reply)) → HaveAnswers before before []
-    at_start None = tt
-    at_start (Some replies) = (refl, tt)
 
 -- ---- what a call keeps
 

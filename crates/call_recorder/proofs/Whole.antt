@@ -1,13 +1,13 @@
 -- The recording of a whole run.
-use Rattle.std.specs.Prelude.{◌*◌, ◌/◌, ◌^◌, map, nat_lt, if◌then◌else◌, Option}
+use Rattle.std.specs.Prelude.{◌*◌, ◌/◌, ◌^◌, map, nat_lt, if◌then◌else◌}
 use Rattle.std.specs.Option.{option_or}
 use Rattle.std.specs.List.{AllByRecursion}
-use Rattle.std.proofs.Common.{◌≡◌, ℕ, zero, suc, ◌+◌, ◌-◌, ◌<◌, ◌≤◌, ◌⊎◌, inl, inr, ⊎_elim, Bool, true, false, List, [], ◌∷◌, ◌++◌, length, Some, None, refl, sym, ap, subst, ◌∙◌, arith, eq-eqb, mul-le-mul_right}
+use Rattle.std.proofs.Common.{◌≡◌, ℕ, zero, suc, ◌+◌, ◌-◌, ◌<◌, ◌≤◌, ◌⊎◌, inl, inr, ⊎_elim, Bool, true, false, List, [], ◌∷◌, ◌++◌, length, Option, Some, None, refl, sym, ap, subst, ◌∙◌, arith, eq-eqb, mul-le-mul_right}
 use Rattle.std.proofs.lemmas.Bool.{cases_lt}
 use Rattle.std.proofs.lemmas.Bool.Decides.{nat_tests}
 use Rattle.std.proofs.lemmas.List.{append-nil}
 use Rattle.std.proofs.lemmas.Nat.{div-mul-add}
-use Rattle.sl_base.specs.declared.world.Reply.{Reply}
+use Rattle.outside.specs.World.{Heard}
 use Rattle.sl_model.specs.declared.run_state.RunState.{RunState}
 use Rattle.sl_model.specs.declared.run_state.RunState.TheVariants.{Running, Exited}
 use Rattle.sl_model.specs.Pages.{Pages}
@@ -28,10 +28,11 @@ use Rattle.call_recorder.specs.declared.kept.Kept.{Kept}
 use Rattle.call_recorder.specs.declared.kept.Finished.{Finished}
 use Rattle.call_recorder.specs.Listing.{page_in, checkpoint_of, checkpoints_of, kept_of}
 use Rattle.call_recorder.specs.Recut.{state_at, first_states, multiples_below, checkpoints_by, end_checkpoint, recut_of}
-use Rattle.call_recorder.specs.Answered.{asked_in, HaveAnswers}
+use Rattle.call_recorder.specs.Answered.{heard_in}
 use Rattle.call_recorder.specs.Kept.{memory_after, AreKept, AreDone, AreFinished}
 use Rattle.call_recorder.specs.Lives.{state_in, ComesSoFar, IsFullAt, HasStopped, StopsWithin, KeptTo}
 use Rattle.call_recorder.specs.Recorded.{IsSource, IsFull, EndsWithin, IsRecorded}
+use Rattle.call_recorder.proofs.Distances.{has_checkpoints}
 use Rattle.call_recorder.proofs.Traps.{is_trap-step}
 use Rattle.call_recorder.proofs.Runs.{state_at-run, comes_to, count-run}
 use Rattle.call_recorder.proofs.Recuts.{are_done, HasRest, value, recut_is, unbroken}
@@ -73,7 +74,7 @@ module _ (limit : ℕ) (live : Live) where
 
 -- ---- the whole
 
-module _ (image : Image) (source : ImageSource) (args : List (List ℕ)) (limit every : ℕ) (before now : Option (List Reply)) (live : Live) (kept : Kept) (end : End) (offers : ℕ) (done : Finished) where
+module _ (image : Image) (source : ImageSource) (args : List (List ℕ)) (limit every : ℕ) (heard : List Heard → Type 0) (live : Live) (kept : Kept) (end : End) (offers : ℕ) (done : Finished) where
   abbrev rec : Recording
   rec = record {
     kind = source.kind;
@@ -95,7 +96,7 @@ module _ (image : Image) (source : ImageSource) (args : List (List ℕ)) (limit 
   abbrev total : ℕ
   total = live.machine.count
 
-  module _ (opens : IsOpening opened) (some : 0 < every) (most : limit ≤ 2 ^ 40) (is : IsSource source) (given : AreArguments args) (comes : ComesSoFar opened before now live) (stopped : HasStopped limit live end) (small : IsCode end)
+  module _ (opens : IsOpening opened) (some : 0 < every) (most : limit ≤ 2 ^ 40) (is : IsSource source) (given : AreArguments args) (comes : ComesSoFar opened heard live) (stopped : HasStopped limit live end) (small : IsCode end)
       (so_far : KeptTo opened every live kept offers) (finished : (pages : Pages) (states : List State) → AreKept pages states kept live.memory → AreFinished pages states last done) where
     all_calls : rec.calls ≡ live.calls ++ []
     all_calls = sym (append-nil live.calls)
@@ -128,7 +129,7 @@ module _ (image : Image) (source : ImageSource) (args : List (List ℕ)) (limit 
       how_it_ends = is_end limit live end stopped.stops small;
     }
 
-    pub is_recorded : IsRecorded image source args limit every before now rec
+    pub is_recorded : IsRecorded image source args limit every heard rec
     is_recorded = record {
       kind = refl;
       load_addr = refl;
@@ -136,7 +137,7 @@ module _ (image : Image) (source : ImageSource) (args : List (List ℕ)) (limit 
       args = refl;
       value = value rec opened every total last done opens some run are rest;
       unbroken = unbroken rec opened every total last done opens some run are ends_rightly;
-      checkpoints = recut_is rec opened every total last done opens some run are;
+      checkpoints = has_checkpoints rec opened every (recut_is rec opened every total last done opens some run are);
       end = subst (λ (s : State). EndsWithin limit rec s end) (sym (state_at-run rec opened rec.last.count last (ap (run_from rec opened) last_at ∙ run))) (ends_within limit live rec end refl stopped.stops);
-      answered = subst (λ n. HaveAnswers before now (asked_in rec opened n)) (sym last_at) (comes.answered rec [] all_calls);
+      world = subst (λ n. heard (heard_in rec opened n)) (sym last_at) (comes.world rec [] all_calls);
     }

@@ -1,8 +1,8 @@
 -- A program that runs over a world while it is recorded.
 use Rattle.std.specs.Prelude.{◌≡◌, ◌≢◌, ℕ, ◌+◌, ◌-◌, ◌*◌, ◌^◌, ◌<◌, ◌≤◌, ◌⊎◌, true, List, [], ◌∷◌, ◌++◌, length, Option, Some, None}
 use Rattle.std.specs.List.{AllByRecursion}
-use Rattle.sl_base.specs.declared.world.Reply.{Reply}
-use Rattle.sl_base.specs.World.{IsAsked, is_write}
+use Rattle.outside.specs.World.{Heard}
+use Rattle.sl_base.specs.Calls.{IsAsked, is_write}
 use Rattle.sl_model.specs.declared.run_state.RunState.TheVariants as status
 use Rattle.sl_model.specs.State.{State, Fits}
 use Rattle.sl_model.specs.Step.{Called, Trapped, step}
@@ -20,7 +20,7 @@ use Rattle.call_recorder.specs.declared.live.Live.{Live}
 use Rattle.call_recorder.specs.declared.kept.Kept.{Kept}
 use Rattle.call_recorder.specs.Recut.{first_states}
 use Rattle.call_recorder.specs.Kept.{AreKept}
-use Rattle.call_recorder.specs.Answered.{entry_of, no_reply, cut_to, asked_in, HaveAnswers}
+use Rattle.call_recorder.specs.Answered.{heard_of, heard_in}
 
 -- ---- one call
 
@@ -31,17 +31,12 @@ pub record IsAsk (ask : Ask) : Type 0 where
   pub give : length ask.give ≤ 65536
   pub gives_room : ask.fixed ≡ None → is_write ask.call ≡ true → length ask.give ≡ ask.room
 
--- where the world told its replies, this is the recorded call with the next one
-abbrev pub GivesEntry : Option (List Reply) → Option (List Reply) → Ask → CallEntry → Type 0
-GivesEntry None new ask entry = Unit {0}
-GivesEntry (Some []) new ask entry = (new ≡ Some []) × (entry ≡ entry_of ask (no_reply ask))
-GivesEntry (Some (reply ∷ replies)) new ask entry =
-    (new ≡ Some replies) × (entry ≡ entry_of ask (cut_to ask reply))
-
--- the world is asked for a result that the machine does not decide, and for no other
-abbrev pub AnswersAsk : Option ℕ → Option (List Reply) → Option (List Reply) → Ask → CallEntry → Type 0
-AnswersAsk None old new ask entry = GivesEntry old new ask entry
-AnswersAsk (Some result) old new ask entry = new ≡ old
+-- The world is asked for a result that the machine does not decide, and hears the call; for others
+-- it is not asked.
+abbrev pub AnswersAsk :
+    {X : Type 0} → (X → Heard → X → Type 0) → Option ℕ → X → X → Ask → CallEntry → Type 0
+AnswersAsk hears None was now ask entry = hears was (heard_of ask entry) now
+AnswersAsk hears (Some result) was now ask entry = now ≡ was
 
 -- ---- the run so far
 
@@ -50,11 +45,11 @@ state_in live = state_of live.machine live.memory.pages
 
 -- The program comes to its state in the run of every recording that has its calls so far, and goes
 -- on from there; and the world answered its calls of the outside.
-pub record ComesSoFar (opened : State) (before now : Option (List Reply)) (live : Live) : Type 0 where
+pub record ComesSoFar (opened : State) (heard : List Heard → Type 0) (live : Live) : Type 0 where
   pub run : (rec : Recording) (more : List CallEntry) → rec.calls ≡ live.calls ++ more
       → run_from rec opened live.machine.count ≡ Some (state_in live)
-  pub answered : (rec : Recording) (more : List CallEntry) → rec.calls ≡ live.calls ++ more
-      → HaveAnswers before now (asked_in rec opened live.machine.count)
+  pub world : (rec : Recording) (more : List CallEntry) → rec.calls ≡ live.calls ++ more
+      → heard (heard_in rec opened live.machine.count)
   pub each : AllByRecursion IsCallEntry live.calls
 
 -- some calls begin with others

@@ -1,7 +1,7 @@
 -- What a recorder promises.
-use Rattle.std.specs.Prelude.{◌≡◌, ◌≢◌, ℕ, ◌-◌, ◌^◌, ◌<◌, ◌≤◌, ◌⊎◌, List, length, Option, None}
+use Rattle.std.specs.Prelude.{◌≡◌, ◌≢◌, ℕ, ◌-◌, ◌^◌, ◌<◌, ◌≤◌, ◌⊎◌, List, length, None}
 use Rattle.std.specs.List.{AllByRecursion}
-use Rattle.sl_base.specs.declared.world.Reply.{Reply}
+use Rattle.outside.specs.World.{Heard}
 use Rattle.sl_model.specs.State.{State}
 use Rattle.sl_model.specs.Step.{Called, step}
 use Rattle.call_log.specs.declared.entry.End.{End}
@@ -14,8 +14,8 @@ use Rattle.replay.specs.Calls.{ask_of}
 use Rattle.replay.specs.Opening.{opening}
 use Rattle.replay.specs.Breaks.{first_break}
 use Rattle.call_recorder.specs.declared.source.ImageSource.{ImageSource}
-use Rattle.call_recorder.specs.Recut.{state_at, recut_of}
-use Rattle.call_recorder.specs.Answered.{asked_in, HaveAnswers}
+use Rattle.call_recorder.specs.Recut.{state_at, HasCheckpointsBy, recut_of}
+use Rattle.call_recorder.specs.Answered.{heard_in}
 
 -- the bytes that an image comes from, as a recording may hold them
 pub record IsSource (source : ImageSource) : Type 0 where
@@ -41,9 +41,9 @@ EndsWithin limit rec last (ends.Trapped number) = last.count < limit
 EndsWithin limit rec last ends.Stopped =
     (last.count ≡ limit) ⊎ ((last.count < limit) × IsFull rec last)
 
--- The recording of a program that was run over a world with replies as told before and after.
+-- The recording of a program that was run over a world which heard these calls.
 pub record IsRecorded (program : Image) (source : ImageSource) (given : List (List ℕ)) (limit every : ℕ)
-    (before now : Option (List Reply)) (rec : Recording) : Type 0 where
+    (heard : List Heard → Type 0) (rec : Recording) : Type 0 where
   -- it has the given image and arguments
   pub kind : rec.kind ≡ source.kind
   pub load_addr : rec.load_addr ≡ source.load_addr
@@ -53,11 +53,11 @@ pub record IsRecorded (program : Image) (source : ImageSource) (given : List (Li
   pub value : IsRecordingValue rec
   pub unbroken : first_break rec (opening program given) ≡ None
   -- its checkpoints are those by the distance
-  pub checkpoints : recut_of rec (opening program given) every ≡ rec
+  pub checkpoints : HasCheckpointsBy rec (opening program given) every
   -- it goes as far as it should
   pub end : EndsWithin limit rec (state_at rec (opening program given) rec.last.count) rec.end
-  -- the world was asked for the calls of the outside and no others, and they have its replies
-  pub answered : HaveAnswers before now (asked_in rec (opening program given) rec.last.count)
+  -- the world was asked for the calls of the outside, in order, and for no others
+  pub world : heard (heard_in rec (opening program given) rec.last.count)
 
 -- The same recorded run with checkpoints by a distance.
 pub record IsRecut (program : Image) (rec : Recording) (every : ℕ) (new : Recording) : Type 0 where

@@ -1,5 +1,5 @@
 -- A recorded run with checkpoints at the multiples of a distance.
-use Rattle.std.specs.Prelude.{ℕ, ◌-◌, ◌*◌, ◌/◌, List, length, map, unwrap_or}
+use Rattle.std.specs.Prelude.{◌≡◌, ℕ, ◌-◌, ◌*◌, ◌/◌, List, length, map, unwrap_or}
 use Rattle.std.specs.List.{range_with_len}
 use Rattle.sl_model.specs.State.{State}
 use Rattle.rec_format.specs.declared.recording.Recording.{Recording}
@@ -26,7 +26,7 @@ checkpoints_by rec opened every =
     let n = multiples_below every rec.last.count in
     kept_of (checkpoints_of (page_in opened.pages) (first_states rec opened every n))
 
--- the checkpoint of the end, behind so many others
+-- the checkpoint of the end, after so many others
 unfoldable pub end_checkpoint : Recording → State → ℕ → ℕ → CheckpointData
 end_checkpoint rec opened every number =
     checkpoint_of (page_in (state_at rec opened (number * every)).pages)
@@ -40,3 +40,9 @@ recut_of rec opened every =
       checkpoints = checkpoints;
       last = end_checkpoint rec opened every (length checkpoints);
     }
+
+-- a recording has the checkpoints at the multiples of a distance, as far as they are kept, and the
+-- one of the end after them
+pub record HasCheckpointsBy (rec : Recording) (opened : State) (every : ℕ) : Type 0 where
+  pub checkpoints : rec.checkpoints ≡ checkpoints_by rec opened every
+  pub last : rec.last ≡ end_checkpoint rec opened every (length rec.checkpoints)

@@ -1,13 +1,15 @@
 //! The answer to a call of a program that is recorded.
 
 ghost use Rattle.std.specs.Prelude.{◌≡◌, ◌<◌, ◌≤◌, length, take, None, Some, true, false, if◌then◌else◌, IfOk};
-ghost use Rattle.sl_base.specs.World.{is_error, is_write};
+ghost use Rattle.sl_base.specs.Calls.{is_error, is_write};
 ghost use Rattle.call_log.specs.Differences.{first_difference};
 ghost use Rattle.rec_format.specs.Rules.{IsCallEntry};
-ghost use Rattle.call_recorder.specs.Lives.{IsAsk, GivesEntry, AnswersAsk};
+ghost use Rattle.call_recorder.specs.Answered.{heard_of};
+ghost use Rattle.call_recorder.specs.Lives.{IsAsk, AnswersAsk};
 
 use call_log::{Ask, CallEntry};
-use sl_base::{Call, LEAST_ERROR, Memory, Seq, WRITE, World};
+use outside::World;
+use sl_base::{Call, LEAST_ERROR, Memory, Seq, WRITE};
 use std::alloc::{AllocError, Global};
 
 /// The bytes that an answer to a read brought: as many of the room as a count says, and none with an error.
@@ -42,7 +44,7 @@ fn written<W: World>(ask: Ask, world: &mut W) -> CallEntry
     requires writes { is_write ask.call ≡ true }
     ensures due { first_difference result ask ≡ None }
     ensures is { IsCallEntry result }
-    ensures given { GivesEntry (W.replies world.old) (W.replies world.new) ask result }
+    ensures heard { W.hears world.old (heard_of ask result) world.new }
 {
     let Ask {
         call,
@@ -61,7 +63,8 @@ fn brought<W: World>(alloc: Global, ask: Ask, world: &mut W) -> Result<CallEntry
     requires reads { is_write ask.call ≡ false }
     ensures due { IfOk result (λ entry. first_difference entry ask ≡ None) }
     ensures is { IfOk result IsCallEntry }
-    ensures given { IfOk result (GivesEntry (W.replies world.old) (W.replies world.new) ask) }
+    ensures heard { IfOk result
+        (λ entry. W.hears world.old (heard_of ask entry) world.new) }
 {
     let Ask {
         call,
@@ -81,7 +84,8 @@ fn answered_by<W: World>(alloc: Global, ask: Ask, world: &mut W) -> Result<CallE
     requires outside { ask.fixed ≡ None }
     ensures due { IfOk result (λ entry. first_difference entry ask ≡ None) }
     ensures is { IfOk result IsCallEntry }
-    ensures given { IfOk result (GivesEntry (W.replies world.old) (W.replies world.new) ask) }
+    ensures heard { IfOk result
+        (λ entry. W.hears world.old (heard_of ask entry) world.new) }
 {
     if ask.call.number == WRITE {
         return Ok(written(ask, world));
@@ -104,8 +108,7 @@ pub(crate) fn answer<W: World>(alloc: Global, ask: Ask, world: &mut W) -> Result
     requires { IsAsk ask }
     ensures due { IfOk result (λ entry. first_difference entry ask ≡ None) }
     ensures is { IfOk result IsCallEntry }
-    ensures given { IfOk result
-        (AnswersAsk ask.fixed (W.replies world.old) (W.replies world.new) ask) }
+    ensures heard { IfOk result (AnswersAsk W.hears ask.fixed world.old world.new ask) }
 {
     match ask.fixed {
         Some(result) => Ok(decided(alloc, ask, result)),

@@ -1,7 +1,7 @@
 //! A program that runs over a world.
 
-ghost use Rattle.std.specs.Prelude.{◌≡◌, ◌+◌, ◌<◌, ◌≤◌, ◌^◌, List, Option, IfOk, OnOk, true};
-ghost use Rattle.sl_base.specs.declared.world.Reply.{Reply};
+ghost use Rattle.std.specs.Prelude.{◌≡◌, ◌+◌, ◌<◌, ◌≤◌, ◌^◌, IfOk, OnOk, true};
+ghost use Rattle.outside.specs.World.{HearsAll};
 ghost use Rattle.sl_model.specs.Marks.{MarksGoOn};
 ghost use Rattle.sl_model.specs.State.{State, register};
 ghost use Rattle.replay.specs.Calls.{exited};
@@ -11,10 +11,11 @@ ghost use Rattle.call_recorder.specs.Lives.{state_in, ComesSoFar, GoesOn, RanTo,
 
 use crate::answering::answer;
 use call_log::{CallEntry, End};
+use outside::World;
 use page_frames::Frames;
 use replay::{apply, ask, exit};
 use rv_machine::{Machine, Outcome, step};
-use sl_base::{Memory, Seq, Steps, World};
+use sl_base::{Memory, Seq, Steps};
 use std::alloc::Global;
 use std::sync::ledger::Ledger;
 
@@ -50,9 +51,9 @@ impl Live {
         requires goes { GoesOn self.old }
         requires count { self.old.machine.count < 2 ^ 40 }
         requires stands { next (state_in self.old) ≡ Called }
-        ensures kept { OnOk result ((opened : State) (before : Option (List Reply))
-            → ComesSoFar opened before (W.replies world.old) self.old
-            → ComesSoFar opened before (W.replies world.new) self.new) }
+        ensures kept { OnOk result ((opened : State) (before : W)
+            → ComesSoFar opened (HearsAll W.hears before world.old) self.old
+            → ComesSoFar opened (HearsAll W.hears before world.new) self.new) }
         ensures went { IfOk result (RanTo (self.old.machine.count + 1) self.new) }
         ensures calls { OnOk result (Begins self.old.calls self.new.calls) }
         ensures from { OnOk result (self.old.machine.count ≤ self.new.machine.count) }
@@ -82,9 +83,9 @@ impl Live {
     ) -> Result<Option<End>, Memory>
         requires goes { GoesOn self.old }
         requires count { self.old.machine.count < 2 ^ 40 }
-        ensures kept { OnOk result ((opened : State) (before : Option (List Reply))
-            → ComesSoFar opened before (W.replies world.old) self.old
-            → ComesSoFar opened before (W.replies world.new) self.new) }
+        ensures kept { OnOk result ((opened : State) (before : W)
+            → ComesSoFar opened (HearsAll W.hears before world.old) self.old
+            → ComesSoFar opened (HearsAll W.hears before world.new) self.new) }
         ensures went { IfOk result (RanTo (self.old.machine.count + 1) self.new) }
         ensures calls { OnOk result (Begins self.old.calls self.new.calls) }
         ensures from { OnOk result (self.old.machine.count ≤ self.new.machine.count) }
@@ -112,9 +113,9 @@ impl Live {
         requires goes { GoesOn self.old }
         requires from { self.old.machine.count ≤ upto }
         requires count { upto ≤ 2 ^ 40 }
-        ensures kept { OnOk result ((opened : State) (before : Option (List Reply))
-            → ComesSoFar opened before (W.replies world.old) self.old
-            → ComesSoFar opened before (W.replies world.new) self.new) }
+        ensures kept { OnOk result ((opened : State) (before : W)
+            → ComesSoFar opened (HearsAll W.hears before world.old) self.old
+            → ComesSoFar opened (HearsAll W.hears before world.new) self.new) }
         ensures went { IfOk result (RanTo upto self.new) }
         ensures calls { OnOk result (Begins self.old.calls self.new.calls) }
         ensures from { OnOk result (self.old.machine.count ≤ self.new.machine.count) }

@@ -1,7 +1,7 @@
 //! Records a run.
 
-ghost use Rattle.std.specs.Prelude.{◌≡◌, ◌<◌, ◌≤◌, ◌^◌, ℕ, List, [], Option, IfOk, OnOk};
-ghost use Rattle.sl_base.specs.declared.world.Reply.{Reply};
+ghost use Rattle.std.specs.Prelude.{◌≡◌, ◌<◌, ◌≤◌, ◌^◌, ℕ, [], IfOk, OnOk};
+ghost use Rattle.outside.specs.World.{HearsAll};
 ghost use Rattle.sl_model.specs.State.{State};
 ghost use Rattle.elf_image.specs.Loadable.{IsLoadable};
 ghost use Rattle.rec_format.specs.Rules.{AreArguments};
@@ -14,9 +14,10 @@ use crate::live::Live;
 use crate::source::ImageSource;
 use call_log::End;
 use elf_image::Image;
+use outside::World;
 use rec_format::Recording;
 use replay::load;
-use sl_base::{Brand, Memory, Seq, Steps, World};
+use sl_base::{Brand, Memory, Seq, Steps};
 use std::alloc::Global;
 use std::sync::ledger::{Blank, Ledger};
 
@@ -38,13 +39,13 @@ fn run_on<W: World, L: Ledger>(
     requires name { blank.name ≡ L.name }
     requires parts { blank.parts ≡ L.parts }
     requires some_parts { 0 < blank.parts }
-    ensures comes { OnOk result ((opened : State) (before : Option (List Reply))
-        → ComesSoFar opened before (W.replies world.old) live.old
-        → ComesSoFar opened before (W.replies world.new) live.new) }
+    ensures comes { OnOk result ((opened : State) (before : W)
+        → ComesSoFar opened (HearsAll W.hears before world.old) live.old
+        → ComesSoFar opened (HearsAll W.hears before world.new) live.new) }
     ensures stopped { IfOk result (HasStopped limit live.new) }
     ensures checkpoints { OnOk result ((offers : ℕ)
-        × ((opened : State) (before : Option (List Reply))
-        → ComesSoFar opened before (W.replies world.old) live.old
+        × ((opened : State) (before : W)
+        → ComesSoFar opened (HearsAll W.hears before world.old) live.old
         → AreKept opened.pages [] kept.old live.old.memory
         → KeptTo opened every live.new kept.new offers)) }
 {
@@ -83,7 +84,7 @@ pub fn record_run<W: World>(
     requires every_some { 1 ≤ every }
     requires every { every ≤ 2 ^ 40 }
     ensures { IfOk result (IsRecorded image.now source args limit every
-        (W.replies world.old) (W.replies world.new)) }
+        (HearsAll W.hears world.old world.new)) }
 {
     let (machine, memory) = load(alloc, image, args.as_slice())?;
     let (_, opening) = load(alloc, image, args.as_slice())?;

@@ -6,8 +6,9 @@ ghost use Rattle.rec_format.specs.Rules.{IsRecordingValue};
 use crate::{ImageSource, record_run, recut};
 use call_log::End;
 use elf_image::flat_image;
+use outside::{MemoryWorld, Reply};
 use rec_format::{Recording, write_recording};
-use sl_base::{Memory, MemoryWorld, Reply, Seq};
+use sl_base::{Memory, Seq};
 use std::alloc::Global;
 use std::test::Fail;
 

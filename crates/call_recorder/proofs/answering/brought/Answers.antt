@@ -1,5 +1,5 @@
 use Rattle.std.proofs.Common.{◌≡◌, length, List, ℕ, subst, rules, arith}
-use Rattle.sl_base.specs.World.{IsAnswer}
+use Rattle.outside.specs.World.{IsAnswer}
 use Rattle.call_recorder.proofs.Due.{due_read}
 use Rattle.call_recorder.proofs.answering.brought.Goals as goal
 

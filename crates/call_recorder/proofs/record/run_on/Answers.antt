@@ -1,6 +1,5 @@
-use Rattle.std.specs.Prelude.{Option, List, [], Some, None}
 use Rattle.std.proofs.Common.{◌≡◌, ℕ, ◌+◌, ◌*◌, ◌≤◌, refl, sym, subst, ◌∙◌, arith}
-use Rattle.sl_base.specs.declared.world.Reply.{Reply}
+use Rattle.outside.specs.World.{HearsAll}
 use Rattle.sl_model.specs.State.{State}
 use Rattle.call_log.specs.declared.entry.End.{End}
 use Rattle.call_recorder.specs.declared.live.Live.{Live}
@@ -30,10 +29,10 @@ loop-next-preserved g c =
       goes = goes-with_memory c.run_to.new.self c.offer.new.f c.in_ok-offer.ensures.pages went.0;
       count = count;
       within = omega (arith, went.1, c.loop-next-test.true);
-      comes = λ opened before comes. comes-with_memory opened before _ c.run_to.new.self c.offer.new.f c.in_ok-offer.ensures.pages (ran.kept opened before (so_far.comes opened before comes));
+      comes = λ opened before comes. comes-with_memory opened (HearsAll g.W.World.hears before c.run_to.new.world) c.run_to.new.self c.offer.new.f c.in_ok-offer.ensures.pages (ran.kept opened before (so_far.comes opened before comes));
       kept = λ opened before comes kept.
           let there = kept_on opened c.args.every so_far.offers c.loop-next.live c.run_to.new.self c.loop-next.kept (so_far.kept opened before comes kept) ran.calls ran.was ran.is ran.marks ran.from (omega (arith, count)) in
-          kept_next opened before _ c.args.every so_far.offers c.run_to.new.self c.loop-next.kept c.offer.new.self c.offer.new.f there (ran.kept opened before (so_far.comes opened before comes)) count c.in_ok-offer.ensures.kept;
+          kept_next opened (HearsAll g.W.World.hears before c.run_to.new.world) c.args.every so_far.offers c.run_to.new.self c.loop-next.kept c.offer.new.self c.offer.new.f there (ran.kept opened before (so_far.comes opened before comes)) count c.in_ok-offer.ensures.kept;
     }
 
 pub run_to-requires-2-clause-from : goal.run_to-requires-2-clause-from

@@ -1,6 +1,6 @@
-use Rattle.std.specs.Prelude.{Option, List, []}
+use Rattle.std.specs.Prelude.{[]}
 use Rattle.std.proofs.Common.{◌≡◌, ℕ, ◌+◌, ◌-◌, ◌*◌, ◌≤◌}
-use Rattle.sl_base.specs.declared.world.Reply.{Reply}
+use Rattle.outside.specs.World.{HearsAll}
 use Rattle.sl_model.specs.State.{State}
 use Rattle.call_log.specs.declared.entry.CallEntry.{CallEntry}
 use Rattle.rec_format.specs.declared.recording.Recording.{Recording}
@@ -15,8 +15,8 @@ invariant-loop-next g l = record {
   goes : GoesOn l.live;
   count : l.live.machine.count ≡ offers * l.every;
   within : l.live.machine.count ≤ l.limit;
-  comes : (opened : State) (before : Option (List Reply)) → ComesSoFar opened before (g.W.World.replies l.fn.world) l.fn.live → ComesSoFar opened before (g.W.World.replies l.world) l.live;
-  kept : (opened : State) (before : Option (List Reply)) → ComesSoFar opened before (g.W.World.replies l.fn.world) l.fn.live → AreKept opened.pages [] l.fn.kept l.fn.live.memory → KeptTo opened l.every l.live l.kept offers;
+  comes : (opened : State) (before : g.row.W.Denot) → ComesSoFar opened (HearsAll g.W.World.hears before l.fn.world) l.fn.live → ComesSoFar opened (HearsAll g.W.World.hears before l.world) l.live;
+  kept : (opened : State) (before : g.row.W.Denot) → ComesSoFar opened (HearsAll g.W.World.hears before l.fn.world) l.fn.live → AreKept opened.pages [] l.fn.kept l.fn.live.memory → KeptTo opened l.every l.live l.kept offers;
 }
 
 abbrev pub decreases-loop-next : goal.decreases-loop-next

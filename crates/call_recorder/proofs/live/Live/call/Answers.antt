@@ -9,7 +9,7 @@ use Rattle.page_frames.specs.MarkedPages.{MarkedPages}
 use Rattle.call_log.specs.declared.entry.End.{End}
 use Rattle.replay.specs.Calls.{ask_of, exited, answered}
 use Rattle.call_recorder.specs.Lives.{state_in, RanTo}
-use Rattle.call_recorder.proofs.Living.{is_ask, goes_exited, goes_answered, goes_nowhere, status-answered, fits_answered, begins_so}
+use Rattle.call_recorder.proofs.Living.{is_ask, goes_exited, goes_answered, status-answered, fits_answered, begins_so}
 use Rattle.call_recorder.proofs.live.Live.call.Goals as goal
 
 pub answer-requires : goal.answer-requires
@@ -21,7 +21,7 @@ pub returns-in_default-clause-kept : goal.returns-in_default-clause-kept
 returns-in_default-clause-kept g c = λ opened before comes.
     let s : State = state_in c.args.self.now in
     let none : ask_of s ≡ None = sym c.in_ok-asked.ensures ∙ cc in
-    goes_exited opened before _ _ c.args.self.now c.leave.new.self comes (ap (λ (t : State). t.count) c.leave.ensures.state) c.requires.goes.running c.requires.stands none c.leave.ensures.state c.leave.ensures.calls refl
+    goes_exited g.W.World.hears opened before _ _ c.args.self.now c.leave.new.self comes (ap (λ (t : State). t.count) c.leave.ensures.state) c.requires.goes.running c.requires.stands none c.leave.ensures.state c.leave.ensures.calls refl
 
 pub returns-in_default-clause-went : goal.returns-in_default-clause-went
 returns-in_default-clause-went g c =
@@ -40,7 +40,7 @@ returns-clause-kept g c = λ opened before comes.
     let s : State = state_in c.args.self.now in
     let asks : ask_of s ≡ Some c.in-Some.asked = sym c.in_ok-asked.ensures ∙ c.in-Some.is in
     let entry = c.in_ok-entry.ensures in
-    goes_answered opened before _ _ c.args.self.now _ comes c.in_ok-apply.ensures.count c.in-Some.asked c.in_ok-entry.entry c.requires.goes.running c.requires.stands asks entry.due c.requires.goes.next_call c.in_ok-push.ensures.ok c.in_ok-apply.ensures.state entry.is entry.given
+    goes_answered g.W.World.hears opened before _ _ c.args.self.now _ comes c.in_ok-apply.ensures.count c.in-Some.asked c.in_ok-entry.entry c.requires.goes.running c.requires.stands asks entry.due c.requires.goes.next_call c.in_ok-push.ensures.ok c.in_ok-apply.ensures.state entry.is entry.heard
 
 pub returns-clause-went : goal.returns-clause-went
 returns-clause-went g c =

@@ -1,6 +1,6 @@
-use Rattle.std.specs.Prelude.{Some, None, Option, List}
+use Rattle.std.specs.Prelude.{Some}
 use Rattle.std.proofs.Common.{◌≡◌, ◌+◌, true, refl, sym, ap, subst, ◌∙◌, arith}
-use Rattle.sl_base.specs.declared.world.Reply.{Reply}
+use Rattle.outside.specs.World.{HearsAll}
 use Rattle.sl_model.specs.State.{State}
 use Rattle.sl_model.specs.Marks.{MarksGoOn}
 use Rattle.sl_model.proofs.MarksLaws.{MarksGoOn-same}
@@ -14,7 +14,7 @@ use Rattle.call_recorder.proofs.live.Live.go_on.Goals as goal
 
 pub returns-in-Stepped-clause-kept : goal.returns-in-Stepped-clause-kept
 returns-in-Stepped-clause-kept g c = λ opened before comes.
-    goes_stepped opened before _ _ c.args.self.now _ comes (c.in-Stepped.ensures.count refl) c.requires.goes.running c.in-Stepped.ensures.next refl refl
+    goes_stepped g.W.World.hears opened before _ _ c.args.self.now _ comes (c.in-Stepped.ensures.count refl) c.requires.goes.running c.in-Stepped.ensures.next refl refl
 
 pub returns-in-Stepped-clause-went : goal.returns-in-Stepped-clause-went
 returns-in-Stepped-clause-went g c = (goes_on-stepped c.args.self.now _ c.requires.goes c.in-Stepped.ensures.next refl, c.in-Stepped.ensures.count refl)
@@ -23,7 +23,7 @@ pub returns-in-Trap-clause-kept : goal.returns-in-Trap-clause-kept
 returns-in-Trap-clause-kept g c = λ opened before comes.
     let next = c.in-Trap.ensures.next in
     let same = same_live c.args.self.now c.step.new.m c.step.new.bus next.1 next.2 (c.in-Trap.ensures.kept (λ e. cc)) in
-    goes_nowhere opened before _ _ c.args.self.now _ same refl comes
+    goes_nowhere opened (HearsAll g.W.World.hears before c.args.world.now) c.args.self.now _ same comes
 
 pub returns-in-Trap-clause-went : goal.returns-in-Trap-clause-went
 returns-in-Trap-clause-went g c =
@@ -54,7 +54,7 @@ pub returns-in_ok-end-in-Call-clause-kept : goal.returns-in_ok-end-in-Call-claus
 returns-in_ok-end-in-Call-clause-kept g c = λ opened before comes.
     let next = c.in-Call.ensures.next in
     let same = same_live c.args.self.now c.step.new.m c.step.new.bus next.1 next.2 (c.in-Call.ensures.kept (λ e. cc)) in
-    c.in_ok-end-in-Call.ensures.kept opened before (subst (λ (l : Live). ComesSoFar opened before (g.W.World.replies c.args.world.now) l) (sym same) comes)
+    c.in_ok-end-in-Call.ensures.kept opened before (subst (λ (l : Live). ComesSoFar opened (HearsAll g.W.World.hears before c.args.world.now) l) (sym same) comes)
 
 pub returns-in_ok-end-in-Call-clause-went : goal.returns-in_ok-end-in-Call-clause-went
 returns-in_ok-end-in-Call-clause-went g c =
