@@ -20,7 +20,6 @@ use sl_base::{Memory, Seq};
 use sl_model::{Layout, RunState};
 use std::alloc::Global;
 use tracepoints::Points;
-use tracer_code::TracerCode;
 use undo_bank::Bank;
 use undo_isolation::RecordRoom;
 
@@ -66,11 +65,13 @@ pub struct Worker {
 }
 
 impl Worker {
-    /// A worker that has run nothing yet, with a bank for this code. No memory is mapped.
-    pub fn new(alloc: Global, code: &TracerCode) -> Result<Worker, Memory>
+    /// A worker that has run nothing yet, and can run the tracers of a plan: its bank is made from
+    /// their code. No memory is mapped.
+    pub fn new(alloc: Global, plan: &Plan) -> Result<Worker, Memory>
         ensures pages { IfOk result (λ worker. worker.f.pages ≡ empty) }
         ensures count { IfOk result (λ worker. worker.m.count ≡ 0) }
-        ensures bank { IfOk result (λ worker. IsMadeFrom code.now.words worker.bank) }
+        ensures bank { IfOk result (λ worker.
+            IsMadeFrom plan.now.tracers.code.words worker.bank) }
     {
         let m = Machine {
             pc: 0,
@@ -86,8 +87,16 @@ impl Worker {
             },
         };
         let f = Frames::new(alloc)?;
-        let bank = Bank::new(alloc, code.words.as_slice())?;
+        let bank = Bank::new(alloc, plan.tracers.code().words.as_slice())?;
         let room = RecordRoom::new(alloc)?;
         Ok(Worker { m, f, bank, room })
+    }
+
+    /// How many entries the last log of its bank had: after an epoch that left records, how many
+    /// stores the tracer of the last of them did.
+    pub fn last_log_len(&self) -> u32
+        ensures { result ≡ self.now.bank.last_log_len }
+    {
+        self.bank.last_log_len()
     }
 }

@@ -32,7 +32,7 @@ impl Standing {
     pub fn new(alloc: Global, plan: &Plan) -> Result<Standing, Memory>
         ensures { IfOk result (StandsIn plan.now) }
     {
-        let worker = Worker::new(alloc, plan.tracers.code())?;
+        let worker = Worker::new(alloc, plan)?;
         Ok(Standing { worker, at: None })
     }
 }
