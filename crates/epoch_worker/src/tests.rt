@@ -7,7 +7,8 @@ use crate::{Epochs, Worked, run_all, work};
 use call_log::{Break, BreakKind};
 use epoch_board::Board;
 use epoch_core::{Post, PostValue};
-use sl_base::{Gate, Memory, NoGate, Seq};
+use outside::{Gate, NoGate};
+use sl_base::{Memory, Seq};
 use std::alloc::Global;
 use std::sync::atomic::{AtomicU64, Ordering};
 use std::test::Fail;
@@ -229,6 +230,28 @@ fn epochs_behind_a_break_are_skipped(rt: HostRuntime) -> Result<(), Fail> {
         (5, Told::Below(4)),
         (6, Told::Below(4)),
     ];
+    assert_eq!(rt; posts.as_slice(), want.as_slice());
+    board.close(seat);
+    Ok(())
+}
+
+/// A worker goes on with a seat that claimed an epoch before, and that no other was split from.
+#[test]
+fn seat_goes_on(rt: HostRuntime) -> Result<(), Fail> {
+    let alloc = rt.alloc();
+    let claims = Claims::new();
+    let epochs = listed(alloc, 4, &[2], &claims, None)?;
+    let (board, mut seat) = Board::new(alloc, 4, 2)?;
+    let Some(first) = board.claim(&mut seat) else {
+        return Err("no epoch".into());
+    };
+    let Worked { seat, tray } = work(alloc, &epochs, &board, seat, 0, &claims)?;
+    let mut posts = Vec::new(alloc);
+    for post in &tray {
+        posts.push(told_by(post))?;
+    }
+    let want = [(1, Told::Ran(1)), (2, Told::Broke(2)), (3, Told::Below(2))];
+    assert_eq!(rt; first, 0);
     assert_eq!(rt; posts.as_slice(), want.as_slice());
     board.close(seat);
     Ok(())

@@ -2,12 +2,13 @@
 
 ghost use Rattle.std.specs.Prelude.{◌≡◌, ◌<◌, ◌++◌, true, false, length, Contains, IfOk};
 ghost use Rattle.epoch_board.specs.Seats.{new_seat};
-ghost use Rattle.epoch_worker.specs.Work.{smaller, IsDueBelow, broken_of, HasFinished};
+ghost use Rattle.epoch_worker.specs.Work.{smaller, IsDueBelow, broken_of, HasFinishedFrom, HasFinished};
 
 use crate::epochs::Epochs;
 use epoch_board::{Board, BoardSeat};
 use epoch_core::{Post, PostValue};
-use sl_base::{Gate, Memory};
+use outside::Gate;
+use sl_base::Memory;
 use std::alloc::Global;
 
 /// What a worker has once it was told that no epoch is left.
@@ -65,7 +66,8 @@ fn tell_break(board: &Board, seat: &mut BoardSeat, post: &Post)
 /// Claims epochs until none is left, and posts each. The gate is told of each claim, with the
 /// worker's number, before its epoch is run. After each claim the least known break is read once,
 /// and the epoch is skipped where that is a smaller one; of an epoch that broke the board is told
-/// before it is posted.
+/// before it is posted. The seat may have any share and any past, but not been told yet that no
+/// epoch is left.
 ///
 /// # Errors
 ///
@@ -79,8 +81,13 @@ pub fn work<P: Epochs, G: Gate>(
     gate: &G,
 ) -> Result<Worked, Memory>
     requires epochs { board.now.epochs ≡ length (P.values epochs.now) }
-    requires seat { seat ≡ new_seat board.now 1 false }
-    ensures { IfOk result (HasFinished (P.values epochs.now) board.now 1) }
+    requires own { seat.board ≡ board.now }
+    requires not_told { seat.told ≡ false }
+    ensures added { IfOk result (HasFinishedFrom (P.values epochs.now) seat) }
+
+    // A seat that began with nothing.
+    ensures anew { seat ≡ new_seat board.now seat.share false
+        → IfOk result (HasFinished (P.values epochs.now) board.now seat.share) }
 {
     let mut worker = epochs.start(alloc)?;
     let mut tray = Vec::new(alloc);
