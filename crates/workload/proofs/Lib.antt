@@ -1,1 +1,3 @@
-mod Silent
+pub mod Silent
+pub mod Body
+pub mod Program

@@ -21,3 +21,7 @@ behind_size =
 abbrev pub source_text : ℕ → ℕ → List ℕ
 source_text seed size =
     before_seed ++ decimal seed ++ before_size ++ decimal size ++ behind_size
+
+-- the tracer that runs on it: it emits each sum before it is stored
+abbrev pub SCRIPT : List ℕ
+SCRIPT = codes "(at (enter mark) (emit (reg 7)))"

@@ -1,8 +1,7 @@
 //! Generates a recording.
 
-ghost use Rattle.std.specs.Prelude.{◌≡◌, ◌≤◌, length, Ok, Some, [], IfOk, IfErr};
-ghost use Rattle.sl_base.specs.Refusals.{Fails};
-ghost use Rattle.elf_image.specs.Loadable.{IsLoadable};
+ghost use Rattle.std.specs.Prelude.{◌≡◌, ◌≤◌, length, Ok, IfOk};
+ghost use Rattle.elf_image.specs.Elf.{IsImage};
 ghost use Rattle.elf_image.specs.Written.{IsWritable, written};
 ghost use Rattle.rv_asm.specs.Assembly.{assembly};
 ghost use Rattle.workload.specs.Source.{source_text};
@@ -11,9 +10,10 @@ ghost use Rattle.workload.specs.Generated.{IsGenerated, IsRecordedRun};
 use crate::source::source_text;
 use call_recorder::{ImageSource, record_run};
 use elf_image::{Image, write_image};
+use outside::MemoryWorld;
 use rec_format::Recording;
-use rv_asm::{AsmFault, assemble};
-use sl_base::{Memory, MemoryWorld, Refused, Seq};
+use rv_asm::assemble;
+use sl_base::{Memory, Refused, Seq};
 use std::alloc::Global;
 
 /// The most instructions of a generated run.
@@ -22,20 +22,30 @@ const LIMIT: u64 = 1_000_000_000;
 /// The kind of an image that is an ELF file.
 const ELF: u32 = 1;
 
-/// The image of a generated program, and the recording of its run.
-#[derive(Debug, Drop)]
-pub struct Generated {
-    pub image: Image,
-    pub rec: Recording,
+/// The image of a generated program.
+fn generated_image(alloc: Global, seed: u32, size: u32) -> Result<Image, Memory>
+    requires some { 1 ≤ size }
+    requires most { size ≤ 1000000 }
+    ensures assembled { IfOk result (λ image. assembly (source_text seed size) ≡ Ok image) }
+    ensures writable { IfOk result IsWritable }
+    ensures small { IfOk result (λ image. length (written image) ≤ 67108864) }
+{
+    let source = source_text(alloc, seed, size)?;
+    match assemble(alloc, &source) {
+        Ok(image) => Ok(image),
+        Err(Refused::Memory) => Err(Memory),
+        Err(Refused::Fault(_)) => unreachable!(),
+    }
 }
 
 /// The recording of an image's file, with a checkpoint every `size` instructions, over a world that
-/// answers nothing.
+/// has no replies.
 fn recording_of(alloc: Global, image: &Image, size: u32) -> Result<Recording, Memory>
     requires writable { IsWritable image.now }
     requires small { length (written image.now) ≤ 67108864 }
     requires some { 1 ≤ size }
-    ensures { IfOk result (IsRecordedRun image.now size) }
+    ensures recorded { IfOk result (IsRecordedRun image.now size) }
+    ensures reads { IfOk result (λ rec. IsImage rec.image image.now) }
 {
     let source = ImageSource {
         kind: ELF,
@@ -53,15 +63,12 @@ fn recording_of(alloc: Global, image: &Image, size: u32) -> Result<Recording, Me
 ///
 /// # Errors
 ///
-/// Want of memory, or the fault of the program's source.
-pub fn generate(alloc: Global, seed: u32, size: u32) -> Result<Generated, Refused<AsmFault>>
+/// Out of memory.
+pub fn generate(alloc: Global, seed: u32, size: u32) -> Result<Recording, Memory>
     requires some { 1 ≤ size }
-    ensures made { IfOk result (λ made. IsGenerated seed size made.image made.rec) }
-    ensures loadable { IfOk result (λ made. IsLoadable made.image) }
-    ensures refused { IfErr result (λ why. Fails why (assembly (source_text seed size))) }
+    requires most { size ≤ 1000000 }
+    ensures { IfOk result (IsGenerated seed size) }
 {
-    let source = source_text(alloc, seed, size)?;
-    let image = assemble(alloc, &source)?;
-    let rec = recording_of(alloc, &image, size)?;
-    Ok(Generated { image, rec })
+    let image = generated_image(alloc, seed, size)?;
+    recording_of(alloc, &image, size)
 }

@@ -2,8 +2,10 @@
 #![tactic(auto)]
 
 mod generating;
+mod laws;
 mod source;
 #[cfg(test)]
 mod tests;
 
-pub use generating::{Generated, generate};
+pub use generating::generate;
+pub use laws::every_program_assembles;
