@@ -4,3 +4,4 @@ mod Registers
 mod Fields
 mod CsvText
 mod PlainTexts
+mod Tables

@@ -6,7 +6,7 @@ use Rattle.std.proofs.lemmas.List.{take-append-drop, take-append-le, drop_more, 
 use Rattle.std.proofs.lemmas.List.Concat.{flat_map-cons, flat_map_single}
 use Rattle.std.proofs.lemmas.Grind.{flat_map-append}
 use Rattle.std.specs.Result.{IsErr}
-use Rattle.sl_base.specs.Written.{Adds, AddsPrefix}
+use Rattle.outside.specs.Written.{Adds, AddsPrefix}
 use Rattle.report.specs.Writing.{Writes}
 
 Adds-then : (old mid new : Option (List ℕ)) (a b : List ℕ) → Adds old mid a → Adds mid new b → Adds old new (a ++ b)
@@ -55,9 +55,3 @@ pieces_at bytes pieces i d lt =
 pub prefix_at : {X : Type 0} (bytes : X → List ℕ) (pieces : List X) (i : ℕ) (d : X) (old mid new : Option (List ℕ)) → i < length pieces → Adds old mid (flat_map bytes (take i pieces)) → AddsPrefix mid new (bytes (get_or pieces i d)) → AddsPrefix old new (flat_map bytes pieces)
 prefix_at bytes pieces i d old mid new lt all some =
     subst (AddsPrefix old new) (pieces_at bytes pieces i d lt) (AddsPrefix-then old mid new (flat_map bytes (take i pieces)) (bytes (get_or pieces i d) ++ flat_map bytes (drop (i + 1) pieces)) all (AddsPrefix-longer mid new (bytes (get_or pieces i d)) (flat_map bytes (drop (i + 1) pieces)) some))
-
--- the same where each item gives one byte
-pub prefix_of_map : {X : Type 0} (f : X → ℕ) (xs : List X) (i : ℕ) (d : X) (old mid new : Option (List ℕ)) → i < length xs → Adds old mid (map f (take i xs)) → AddsPrefix mid new (f (get_or xs i d) ∷ []) → AddsPrefix old new (map f xs)
-prefix_of_map f xs i d old mid new lt all some =
-    let all = subst (Adds old mid) (sym (flat_map_single f (take i xs))) all in
-    subst (AddsPrefix old new) (flat_map_single f xs) (prefix_at (λ x. f x ∷ []) xs i d old mid new lt all some)

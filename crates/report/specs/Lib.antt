@@ -1,5 +1,5 @@
-pub mod Names
 pub mod Report
+pub mod Lines
 pub mod Status
 pub mod Writing
 pub mod Pieces

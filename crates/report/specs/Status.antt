@@ -13,7 +13,6 @@ use Rattle.tracer_text.specs.declared.fault.ScriptCause.{ScriptCause}
 use Rattle.tracer_text.specs.declared.fault.ScriptCause.TheVariants as script_cause
 use Rattle.asm_text.specs.declared.fault.AsmCause.{AsmCause}
 use Rattle.asm_text.specs.declared.fault.AsmCause.TheVariants as asm_cause
-use Rattle.report.specs.Names.{printed_name}
 use Rattle.report.specs.Report.{end_kind, end_value}
 use Rattle.report.specs.declared.status.Refusal.{Refusal}
 use Rattle.report.specs.declared.status.Refusal.TheVariants as refusal
@@ -147,12 +146,12 @@ break_line count (kind.CheckpointDiffers index part address recorded replayed) =
     ∷ word_text replayed
     ∷ [])
 
--- the line of a refusal
+-- the line of a refusal; a file's name stands in it as it was given
 abbrev pub refusal_line : Refusal → List ℕ
 refusal_line refusal.Usage = line_of (codes "usage" ∷ [])
-refusal_line (refusal.Absent name) = line_of (codes "absent: " ∷ printed_name name ∷ [])
+refusal_line (refusal.Absent name) = line_of (codes "absent: " ∷ name ∷ [])
 refusal_line (refusal.TooLong limit name) =
-    line_of (codes "longer than " ∷ decimal limit ∷ codes " bytes: " ∷ printed_name name ∷ [])
+    line_of (codes "longer than " ∷ decimal limit ∷ codes " bytes: " ∷ name ∷ [])
 refusal_line (refusal.RecordingBroken fault) =
     line_of
     (codes "recording broken at "

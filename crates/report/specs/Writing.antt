@@ -1,6 +1,6 @@
 -- What a call that writes to an output adds to it.
 use Rattle.std.specs.Prelude.{ℕ, List, Option, Result, Ok, Err}
-use Rattle.sl_base.specs.Written.{Adds, AddsPrefix}
+use Rattle.outside.specs.Written.{Adds, AddsPrefix}
 
 -- all of these bytes, or after a failure some of them, from the first on
 abbrev pub Writes : {T E : Type 0}

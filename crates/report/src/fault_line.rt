@@ -2,9 +2,8 @@
 
 ghost use Rattle.std.specs.Prelude.{◌≡◌, ◌≤◌, map, OnErr};
 ghost use Rattle.std.specs.List.{flat_map};
-ghost use Rattle.sl_base.specs.Faults.{Rose};
+ghost use Rattle.outside.specs.Faults.{Rose};
 ghost use Rattle.report.specs.Status.{line_of, rec_cause_name, image_cause_name, script_cause_name, asm_cause_name, break_line, refusal_line, fault_line};
-ghost use Rattle.report.specs.Names.{printed_byte, printed_name};
 ghost use Rattle.report.specs.Pieces.{piece_text};
 ghost use Rattle.report.specs.Writing.{Writes};
 
@@ -13,15 +12,16 @@ use crate::status::{Refusal, Status};
 use asm_text::AsmCause;
 use call_log::{BreakKind, End};
 use elf_image::ImageCause;
+use outside::{Sink, SinkFailed, write_all};
 use rec_format::RecCause;
-use sl_base::{Seq, Sink, SinkFailed, decimal_text, word_text, write_all};
+use sl_base::{Seq, decimal_text, word_text};
 use tracer_text::ScriptCause;
 
 /// A piece of a line.
 #[derive(Clone, Copy)]
 pub enum Piece<'a> {
     Text(&'a str),
-    /// A file's name, with its control characters as question marks.
+    /// A file's name, as it was given.
     Name(&'a Seq<u8>),
     /// A number in decimal digits.
     Number(u64),
@@ -35,26 +35,6 @@ pub enum Piece<'a> {
     Value(&'a End),
 }
 
-/// A byte of a name as a line shows it: a control character is a question mark.
-fn printed_byte(byte: u8) -> u8
-    ensures { result ≡ printed_byte byte }
-{
-    if byte.is_ascii_control() { b'?' } else { byte }
-}
-
-/// Writes a name, in which no byte can end the line.
-fn write_name<O: Sink>(out: &mut O, name: &[u8]) -> Result<(), SinkFailed>
-    ensures written { Writes result (O.written out.old) (O.written out.new)
-        (printed_name name.now) }
-    ensures failed { OnErr result (Rose (O.faults out.old) (O.faults out.new)) }
-    ensures later { O.faults out.old ≤ O.faults out.new }
-{
-    for byte in name {
-        write_all(out, &[printed_byte(*byte)])?;
-    }
-    Ok(())
-}
-
 /// Writes one piece.
 fn write_piece<O: Sink>(out: &mut O, piece: &Piece<'_>) -> Result<(), SinkFailed>
     ensures written { Writes result (O.written out.old) (O.written out.new) (piece_text piece.now) }
@@ -63,7 +43,7 @@ fn write_piece<O: Sink>(out: &mut O, piece: &Piece<'_>) -> Result<(), SinkFailed
 {
     match piece {
         Piece::Text(text) => write_all(out, text.as_bytes()),
-        Piece::Name(name) => write_name(out, name.as_slice()),
+        Piece::Name(name) => write_all(out, name.as_slice()),
         Piece::Number(number) => write_all(out, decimal_text(*number).as_bytes()),
         Piece::Index(index) => write_all(out, decimal_text(u64::from(*index)).as_bytes()),
         Piece::Word(word) => write_all(out, word_text(*word).as_bytes()),

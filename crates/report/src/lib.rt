@@ -2,6 +2,7 @@
 #![tactic(auto)]
 
 mod fault_line;
+mod laws;
 mod lines;
 mod run_end;
 mod status;
@@ -9,6 +10,7 @@ mod table;
 mod text;
 
 pub use fault_line::write_fault;
+pub use laws::reports_are_tables;
 pub use run_end::{RunEnd, recorded_end};
 pub use status::{Refusal, Status};
 pub use text::{checked_text, recorded_text, report_text};

@@ -2,14 +2,12 @@
 
 use crate::{Refusal, RunEnd, Status, report_text, write_fault};
 use analysers::{Merged, Row, read_kind};
-use call_log::{Break, BreakKind, End};
-use elf_image::{ImageCause, ImageFault};
-use rec_format::{RecCause, RecFault};
-use sl_base::{MemorySink, Seq, Sink, SinkFailed};
+use call_log::End;
+use outside::{MemorySink, Sink, SinkFailed};
+use sl_base::Seq;
 use std::alloc::Global;
 use std::test::Fail;
 use tracer_lang::{Record, TracerEnd};
-use tracer_text::{ScriptCause, ScriptFault};
 
 /// Whether a command that ended so ends the program with this number and writes this line.
 fn tells(alloc: Global, status: &Status, code: u8, line: &str) -> Result<bool, Fail> {
@@ -23,15 +21,6 @@ fn refuses(alloc: Global, why: Refusal, code: u8, line: &str) -> Result<bool, Fa
     tells(alloc, &Status::Refused(why), code, line)
 }
 
-/// The same of a break by a call or by the end, at a count.
-fn breaks(alloc: Global, count: u64, kind: BreakKind, line: &str) -> Result<bool, Fail> {
-    refuses(alloc, Refusal::ReplayBroken(Break { count, kind }), 8, line)
-}
-
-fn name(alloc: Global) -> Result<Seq<u8>, Fail> {
-    Ok(Seq::from_vec(b"a.rec".to_vec(alloc)?))
-}
-
 #[test]
 fn endings(rt: HostRuntime) -> Result<(), Fail> {
     let alloc = rt.alloc();
@@ -42,116 +31,14 @@ fn endings(rt: HostRuntime) -> Result<(), Fail> {
     Ok(())
 }
 
+/// A name of two lines stands in the line as it was given, byte for byte. All other refusals are on
+/// the pages of the crate `transcripts`.
 #[test]
-fn refusals(rt: HostRuntime) -> Result<(), Fail> {
+fn names_of_two_lines(rt: HostRuntime) -> Result<(), Fail> {
     let alloc = rt.alloc();
-    assert!(rt; refuses(alloc, Refusal::Usage, 1, "sledge: usage\n")?);
-    let why = Refusal::Absent { name: name(alloc)? };
-    assert!(rt; refuses(alloc, why, 2, "sledge: absent: a.rec\n")?);
-    let name_of_two_lines = Seq::from_vec("a\nb\u{7f}\u{e4}.rec".as_bytes().to_vec(alloc)?);
-    let why = Refusal::Absent {
-        name: name_of_two_lines,
-    };
-    assert!(rt; refuses(alloc, why, 2, "sledge: absent: a?b?\u{e4}.rec\n")?);
-    let why = Refusal::TooLong {
-        limit: 268_435_456,
-        name: name(alloc)?,
-    };
-    assert!(rt;
-        refuses(
-            alloc,
-            why,
-            3,
-            "sledge: longer than 268435456 bytes: a.rec\n"
-        )?
-    );
-    let why = Refusal::RecordingBroken(RecFault {
-        place: 12,
-        cause: RecCause::PageRepeated,
-    });
-    assert!(rt;
-        refuses(
-            alloc,
-            why,
-            4,
-            "sledge: recording broken at 12: Page repeated\n"
-        )?
-    );
-    let why = Refusal::ImageBroken(ImageFault {
-        place: 16,
-        cause: ImageCause::WrongType,
-    });
-    assert!(rt; refuses(alloc, why, 5, "sledge: image broken at 16: Type\n")?);
-    let why = Refusal::ScriptRefused(ScriptFault {
-        place: 19,
-        cause: ScriptCause::NameUnknown,
-    });
-    assert!(rt;
-        refuses(
-            alloc,
-            why,
-            6,
-            "sledge: script refused at 19: Name unknown\n"
-        )?
-    );
-    let why = Refusal::AnalysisRefused(2);
-    assert!(rt; refuses(alloc, why, 7, "sledge: analysis 2 is none\n")?);
-    let why = Refusal::CheckpointDiffers(Break {
-        count: 2,
-        kind: BreakKind::CheckpointDiffers {
-            index: 1,
-            part: 10,
-            at: 0,
-            recorded: 6,
-            replayed: 5,
-        },
-    });
-    let line = "sledge: checkpoint 1 differs at count 2, part 10, at 0x00000000: recorded \
-                0x00000006, replayed 0x00000005\n";
-    assert!(rt; refuses(alloc, why, 9, line)?);
-    Ok(())
-}
-
-#[test]
-fn broken_replays(rt: HostRuntime) -> Result<(), Fail> {
-    let alloc = rt.alloc();
-    let kind = BreakKind::NoCall { index: 3 };
-    let line = "sledge: replay broken at count 7: call 3 is not recorded\n";
-    assert!(rt; breaks(alloc, 7, kind, line)?);
-    let kind = BreakKind::CallDiffers {
-        index: 0,
-        field: 7,
-        recorded: 0xffff_ffff,
-        due: 12,
-    };
-    let line = "sledge: replay broken at count 9: call 0 field 7: recorded 0xffffffff, due \
-                0x0000000c\n";
-    assert!(rt; breaks(alloc, 9, kind, line)?);
-    let kind = BreakKind::EarlyEnd { end: 5 };
-    assert!(rt;
-        breaks(
-            alloc,
-            3,
-            kind,
-            "sledge: replay broken at count 3: ends before 5\n"
-        )?
-    );
-    let kind = BreakKind::EndDiffers {
-        recorded: End::Exited(4),
-        replayed: End::Trapped(2),
-    };
-    let line = "sledge: replay broken at count 3: end is trapped 0x00000002, recorded exited \
-                0x00000004\n";
-    assert!(rt; breaks(alloc, 3, kind, line)?);
-    let kind = BreakKind::CallsLeft { index: 1 };
-    assert!(rt;
-        breaks(
-            alloc,
-            3,
-            kind,
-            "sledge: replay broken at count 3: call 1 is left\n"
-        )?
-    );
+    let name = Seq::from_vec("a\nb\u{7f}\u{e4}.rec".as_bytes().to_vec(alloc)?);
+    let why = Refusal::Absent { name };
+    assert!(rt; refuses(alloc, why, 2, "sledge: absent: a\nb\u{7f}\u{e4}.rec\n")?);
     Ok(())
 }
 

@@ -1,5 +1,5 @@
 use Rattle.std.proofs.Common.{subst, arith}
-use Rattle.sl_base.specs.Written.{AddsPrefix}
+use Rattle.outside.specs.Written.{AddsPrefix}
 use Rattle.report.specs.Pieces.{piece_text}
 use Rattle.report.proofs.Writing.{Writes-failed, prefix_at}
 use Rattle.report.proofs.fault_line.write_pieces.Goals as goal

@@ -1,6 +1,6 @@
 use Rattle.std.proofs.Common.{◌≤◌, take}
 use Rattle.std.specs.List.{flat_map}
-use Rattle.sl_base.specs.Written.{Adds}
+use Rattle.outside.specs.Written.{Adds}
 use Rattle.report.specs.Pieces.{piece_text}
 use Rattle.report.proofs.fault_line.write_pieces.Given as goal
 
