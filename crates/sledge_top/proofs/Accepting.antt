@@ -6,8 +6,8 @@ use Rattle.std.specs.FinMap.{get, insert, get-insert}
 use Rattle.std.proofs.Common.{◌≡◌, ℕ, Bool, true, false, List, [], length, Option, Some, None, Result, Ok, Err, refl, sym, ap, subst, ◌∙◌, arith}
 use Rattle.std.proofs.lemmas.Bool.Decides.{nat_tests}
 use Rattle.std.proofs.lemmas.Cmp.{eq_by_cmp_equiv, nat_list_cmp_total}
-use Rattle.sl_base.specs.Files.{Files}
-use Rattle.sl_base.specs.declared.world.Reply.{Reply}
+use Rattle.outside.specs.Files.{Files}
+use Rattle.outside.specs.World.{Heard, HearsAll}
 use Rattle.sl_model.specs.State.{State}
 use Rattle.elf_image.specs.declared.image.Image.{Image}
 use Rattle.call_log.specs.declared.breaks.Break.{Break}
@@ -19,7 +19,8 @@ use Rattle.rec_format.proofs.RecordingLaws.{reading_again}
 use Rattle.replay.specs.Opening.{opening}
 use Rattle.replay.specs.Breaks.{first_break}
 use Rattle.call_recorder.specs.Recorded.{IsRecorded}
-use Rattle.call_recorder.specs.Recut.{recut_of}
+use Rattle.call_recorder.specs.Recut.{HasCheckpointsBy, recut_of}
+use Rattle.call_recorder.proofs.Distances.{recut_of_itself}
 use Rattle.cli_words.specs.Orders.{RecordOptions}
 use Rattle.report.specs.declared.status.Refusal.{Refusal}
 use Rattle.report.specs.declared.status.Refusal.TheVariants as refusal
@@ -114,16 +115,16 @@ recuts files name every both done reads is = ap (λ (r : Result (Recording × Im
 
 -- ---- all together
 
-module _ (files : Files) (name : List ℕ) (options : RecordOptions) (before now : Option (List Reply)) where
+module _ (files : Files) (name : List ℕ) (options : RecordOptions) (heard : List Heard → Type 0) where
   of_run : (program : Image) (bytes : List ℕ) (rec : Recording) → image_or_refusal options.flat bytes ≡ Ok program
-      → IsRecorded program (source_of options.flat bytes) options.arguments options.limit options.every before now rec
+      → IsRecorded program (source_of options.flat bytes) options.arguments options.limit options.every heard rec
       → nat_lt RECORDING_LIMIT (length (spelling rec)) ≡ false → IsAccepted (insert files name (spelling rec)) name options.every (recorded_as name rec (spelling rec))
   of_run program bytes rec image is short =
       let both : Recording × Image = (rec, program) in
       let file : Files = insert files name (spelling rec) in
       let opens : opening program options.arguments ≡ opening program rec.args = ap (opening program) (sym is.args) in
       let none : first_break rec (opening program rec.args) ≡ None = subst (λ (s : State). first_break rec s ≡ None) opens is.unbroken in
-      let same : recut_of rec (opening program rec.args) options.every ≡ rec = subst (λ (s : State). recut_of rec s options.every ≡ rec) opens is.checkpoints in
+      let same : recut_of rec (opening program rec.args) options.every ≡ rec = recut_of_itself rec (opening program rec.args) options.every (subst (λ (s : State). HasCheckpointsBy rec s options.every) opens is.checkpoints) in
       let spelled_so : IsRecording (spelling rec) rec = record { spelled = refl; value = is.value; size = grind (arith, nat_tests, short) } in
       let given : image_of rec ≡ Ok program = same_image rec options.flat bytes is.kind is.load_addr is.image ∙ image in
       let reads : recorded_in file name ≡ Ok both = read_in files name (spelling rec) both short (read_again rec program (spelling rec) (reading_again (spelling rec) rec spelled_so) given) in
@@ -134,22 +135,22 @@ module _ (files : Files) (name : List ℕ) (options : RecordOptions) (before now
         cut_anew = recuts file name options.every both (recorded_as name rec (spelling rec)) reads (recuts_from name options.every rec (opening program rec.args) none same short);
       }
 
-  of_program : (program : Image) (bytes : List ℕ) (done : Done) → image_or_refusal options.flat bytes ≡ Ok program → RecordsProgram program (source_of options.flat bytes) name options before now (Ok done)
+  of_program : (program : Image) (bytes : List ℕ) (done : Done) → image_or_refusal options.flat bytes ≡ Ok program → RecordsProgram program (source_of options.flat bytes) name options heard (Ok done)
       → IsAccepted (with_put files done.put) name options.every done
   unfolding RecordsProgram
   of_program program bytes done image comes =
       let put = was_put name comes.0 done comes.2 in
       subst (λ (d : Done). IsAccepted (with_put files d.put) name options.every d) (sym put.is) (of_run program bytes comes.0 image comes.1 put.short)
 
-  of_image : (image : Result Image Refusal) (bytes : List ℕ) (done : Done) → image_or_refusal options.flat bytes ≡ image → RecordsImage image bytes name options before now (Ok done)
+  of_image : (image : Result Image Refusal) (bytes : List ℕ) (done : Done) → image_or_refusal options.flat bytes ≡ image → RecordsImage image bytes name options heard (Ok done)
       → IsAccepted (with_put files done.put) name options.every done
   unfolding RecordsImage
   of_image (Err why) bytes done is comes = absurd (differ done why comes.0)
   of_image (Ok program) bytes done is comes = of_program program bytes done is comes
 
-  of_file : (file : Result (List ℕ) Refusal) (done : Done) → RecordsFile file name options before now (Ok done) → IsAccepted (with_put files done.put) name options.every done
+  of_file : (file : Result (List ℕ) Refusal) (done : Done) → RecordsFile file name options heard (Ok done) → IsAccepted (with_put files done.put) name options.every done
   of_file (Err why) done comes = absurd (differ done why comes.0)
   of_file (Ok bytes) done comes = of_image (image_or_refusal options.flat bytes) bytes done refl comes
 
-pub accepted : RecordingsAreAccepted
-accepted files image name options before now done comes = of_file files name options before now (file_of files image IMAGE_LIMIT) done comes
+pub accepted : {X : Type 0} (hears : X → Heard → X → Type 0) → RecordingsAreAccepted hears
+accepted hears files image name options was now done comes = of_file files name options (HearsAll hears was now) (file_of files image IMAGE_LIMIT) done comes

@@ -4,6 +4,10 @@ mod Reports
 mod Arguments
 mod Recuts
 mod Recorded
+mod Finishing
+mod Outcomes
+mod OneRun
+mod Merges
 mod GeneratedRuns
 mod KindCodes
 mod AnalysisWords

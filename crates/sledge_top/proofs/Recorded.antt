@@ -1,8 +1,8 @@
 -- What a command comes to that records, by what its parts come to.
-use Rattle.std.proofs.Common.{◌≡◌, ℕ, List, Option, Result, Ok, Err, refl, sym, subst}
+use Rattle.std.proofs.Common.{◌≡◌, ℕ, List, [], Result, Ok, Err, refl, sym, subst}
 use Rattle.sl_base.specs.declared.refused.Refused.{Refused}
 use Rattle.sl_base.specs.declared.refused.Refused.TheVariants as refused
-use Rattle.sl_base.specs.declared.world.Reply.{Reply}
+use Rattle.outside.specs.World.{Heard}
 use Rattle.sl_base.specs.Refusals.{Fails, Gives}
 use Rattle.elf_image.specs.declared.image.Image.{Image}
 use Rattle.cli_words.specs.Orders.{RecordOptions}
@@ -19,14 +19,14 @@ due_so Is (Err (refused.Fault why)) due gives is = subst Is gives is
 due_so Is (Err refused.Memory) due gives is = tt
 
 -- no image
-pub image_refused : (why : Refused Refusal) (image : Result Image Refusal) (bytes output : List ℕ) (options : RecordOptions) (replies : Option (List Reply)) → Fails why image
-    → MaySo (RecordsImage image bytes output options replies replies) (Err why)
+pub image_refused : (why : Refused Refusal) (image : Result Image Refusal) (bytes output : List ℕ) (options : RecordOptions) (heard : List Heard → Type 0) → Fails why image → heard []
+    → MaySo (RecordsImage image bytes output options heard) (Err why)
 unfolding RecordsImage
-image_refused refused.Memory image bytes output options replies fails = tt
-image_refused (refused.Fault why) image bytes output options replies fails = subst (λ i. RecordsImage i bytes output options replies replies (Err why)) (sym fails) (refl, refl)
+image_refused refused.Memory image bytes output options heard fails none = tt
+image_refused (refused.Fault why) image bytes output options heard fails none = subst (λ i. RecordsImage i bytes output options heard (Err why)) (sym fails) (refl, none)
 
 -- an image
-pub image_recorded : (result : Result GivenDone (Refused Refusal)) (image : Result Image Refusal) (given : Image) (bytes output : List ℕ) (options : RecordOptions) (before now : Option (List Reply)) → image ≡ Ok given
-    → MaySo (RecordsProgram given (source_of options.flat bytes) output options before now) result → MaySo (RecordsImage image bytes output options before now) result
+pub image_recorded : (result : Result GivenDone (Refused Refusal)) (image : Result Image Refusal) (given : Image) (bytes output : List ℕ) (options : RecordOptions) (heard : List Heard → Type 0) → image ≡ Ok given
+    → MaySo (RecordsProgram given (source_of options.flat bytes) output options heard) result → MaySo (RecordsImage image bytes output options heard) result
 unfolding RecordsImage
-image_recorded result image given bytes output options before now is so = subst (λ i. MaySo (RecordsImage i bytes output options before now) result) (sym is) so
+image_recorded result image given bytes output options heard is so = subst (λ i. MaySo (RecordsImage i bytes output options heard) result) (sym is) so

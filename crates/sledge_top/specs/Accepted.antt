@@ -1,7 +1,7 @@
 -- What the command that records puts, as the other commands read it.
-use Rattle.std.specs.Prelude.{◌≡◌, ℕ, List, Option, None, Ok, IsOk}
-use Rattle.sl_base.specs.Files.{Files}
-use Rattle.sl_base.specs.declared.world.Reply.{Reply}
+use Rattle.std.specs.Prelude.{◌≡◌, ℕ, List, None, Ok, IsOk}
+use Rattle.outside.specs.Files.{Files}
+use Rattle.outside.specs.World.{Heard, HearsAll}
 use Rattle.elf_image.specs.declared.image.Image.{Image}
 use Rattle.rec_format.specs.declared.recording.Recording.{Recording}
 use Rattle.replay.specs.Opening.{opening}
@@ -21,9 +21,8 @@ pub record IsAccepted (files : Files) (name : List ℕ) (every : ℕ) (done : Do
   pub cut_anew : recut files name name every ≡ Ok done
 
 -- so it is with what is put where a program is recorded
-abbrev pub RecordingsAreAccepted : Type 0
-RecordingsAreAccepted =
-    (files : Files) (image name : List ℕ) (options : RecordOptions)
-    (before now : Option (List Reply)) (done : Done)
-    → RecordsTo files image name options before now (Ok done)
+abbrev pub RecordingsAreAccepted : {X : Type 0} → (X → Heard → X → Type 0) → Type 0
+RecordingsAreAccepted {X} hears =
+    (files : Files) (image name : List ℕ) (options : RecordOptions) (was now : X) (done : Done)
+    → RecordsTo files image name options (HearsAll hears was now) (Ok done)
     → IsAccepted (with_put files done.put) name options.every done

@@ -1,10 +1,10 @@
 -- What a command comes to, from its words and the files: what it does, or why it is refused. What
 -- the command that records comes to depends on the world too.
-use Rattle.std.specs.Prelude.{◌≡◌, ◌==◌, Bool, true, false, ℕ, List, [], ◌∷◌, ◌++◌, length, codes, decimal, Option, Some, None, Result, Ok, Err, nat_lt, if◌then◌else◌}
+use Rattle.std.specs.Prelude.{◌≡◌, ◌==◌, IsSomeAnd, Bool, true, false, ℕ, List, [], ◌∷◌, ◌++◌, length, codes, decimal, Option, Some, None, Result, Ok, Err, nat_lt, if◌then◌else◌}
 use Rattle.std.specs.Option.{unwrap_or}
 use Rattle.std.specs.FinMap.{get}
-use Rattle.sl_base.specs.Files.{Files}
-use Rattle.sl_base.specs.declared.world.Reply.{Reply}
+use Rattle.outside.specs.Files.{Files}
+use Rattle.outside.specs.World.{Heard, HearsAll}
 use Rattle.sl_model.specs.State.{State}
 use Rattle.elf_image.specs.declared.image.Image.{Image}
 use Rattle.elf_image.specs.declared.fault.ImageFault.{ImageFault}
@@ -34,13 +34,12 @@ use Rattle.report.specs.Report.{analyses_lines, report, checked_line, recorded_l
 use Rattle.call_recorder.specs.declared.source.ImageSource.{ImageSource}
 use Rattle.call_recorder.specs.Recorded.{IsRecorded}
 use Rattle.call_recorder.specs.Recut.{recut_of}
-use Rattle.cli_words.specs.Orders.{Order, TraceOptions, RecordOptions, Trace, TraceAt, Replay, Check, Record, Recut, Asm, Show, Gen, order_of}
+use Rattle.cli_words.specs.Orders.{Order, RecordOptions, Trace, TraceAt, Replay, Check, Record, Recut, Asm, Show, Gen, order_of}
 use Rattle.report.specs.declared.status.Status.{Status}
-use Rattle.workload.specs.Source.{source_text}
-use Rattle.workload.specs.Generated.{IsRecordedRun}
+use Rattle.workload.specs.Generated.{IsGenerated}
 use Rattle.sledge_top.specs.Kinds.{kinds_of}
-use Rattle.sledge_top.specs.Done.{Done, only_text, text_of}
-use Rattle.sledge_top.specs.Endings.{Ends, Says, Leaves, Answers}
+use Rattle.sledge_top.specs.Done.{Done, only_text}
+use Rattle.sledge_top.specs.Endings.{Does, Answers}
 use Rattle.elf_image.specs.Written.{written}
 use Rattle.rv_asm.specs.Assembly.{assembly}
 use Rattle.sledge_top.specs.Show.{show_lines}
@@ -116,7 +115,14 @@ abbrev pub replayed : Recording → State → List ℕ → Option Break → Resu
 replayed rec opened lines (Some first) = Err (broken_by first first.kind)
 replayed rec opened lines None = Ok (report lines (run_end rec (last_state rec opened)))
 
--- with analyses of what the tracers of a script leave
+-- the report of a recording that replays without a break, with analyses of what the tracers of a
+-- script leave
+abbrev pub report_of : Recording → ScriptTree → List Kind → State → List ℕ
+report_of rec script kinds opened =
+    let left : List LeftRecord = records rec (records_at script) opened in
+    report (analyses_lines 1 kinds (rows_of kinds left)) (run_end rec (last_state rec opened))
+
+-- the same, or how the command is refused
 unfoldable pub traced : Recording → ScriptTree → List Kind → State → Result (List ℕ) Refusal
 traced rec script kinds opened =
     let left : List LeftRecord = records rec (records_at script) opened in
@@ -275,39 +281,37 @@ abbrev pub source_of : Option ℕ → List ℕ → ImageSource
 source_of None bytes = record { kind = 1; load_addr = 0; bytes = bytes }
 source_of (Some address) bytes = record { kind = 0; load_addr = address; bytes = bytes }
 
--- Running a program over a world that told these replies before and tells these now comes to this: a
--- recording of the run is put.
+-- What running a program over a world comes to: a recording of the run is put. `heard` says which
+-- calls the world may have been asked for.
 unfoldable pub RecordsProgram :
-    Image → ImageSource → List ℕ → RecordOptions
-    → Option (List Reply) → Option (List Reply) → Result Done Refusal → Type 0
-RecordsProgram image source output options before now defined =
+    Image → ImageSource → List ℕ → RecordOptions → (List Heard → Type 0) → Result Done Refusal
+    → Type 0
+RecordsProgram image source output options heard defined =
     (rec : Recording)
-    × IsRecorded image source options.arguments options.limit options.every before now rec
+    × IsRecorded image source options.arguments options.limit options.every heard rec
     × (defined ≡ put_recording output rec)
 
 -- the same of an image that bytes are; where they are none the world is not asked
 unfoldable pub RecordsImage :
-    Result Image Refusal → List ℕ → List ℕ → RecordOptions
-    → Option (List Reply) → Option (List Reply) → Result Done Refusal → Type 0
-RecordsImage (Err why) bytes output options before now defined =
-    (defined ≡ Err why) × (now ≡ before)
-RecordsImage (Ok image) bytes output options before now defined =
-    RecordsProgram image (source_of options.flat bytes) output options before now defined
+    Result Image Refusal → List ℕ → List ℕ → RecordOptions → (List Heard → Type 0)
+    → Result Done Refusal → Type 0
+RecordsImage (Err why) bytes output options heard defined = (defined ≡ Err why) × heard []
+RecordsImage (Ok image) bytes output options heard defined =
+    RecordsProgram image (source_of options.flat bytes) output options heard defined
 
 -- and from a file; where there is none the world is not asked
 abbrev pub RecordsFile :
-    Result (List ℕ) Refusal → List ℕ → RecordOptions
-    → Option (List Reply) → Option (List Reply) → Result Done Refusal → Type 0
-RecordsFile (Err why) output options before now defined = (defined ≡ Err why) × (now ≡ before)
-RecordsFile (Ok bytes) output options before now defined =
-    RecordsImage (image_or_refusal options.flat bytes) bytes output options before now defined
+    Result (List ℕ) Refusal → List ℕ → RecordOptions → (List Heard → Type 0)
+    → Result Done Refusal → Type 0
+RecordsFile (Err why) output options heard defined = (defined ≡ Err why) × heard []
+RecordsFile (Ok bytes) output options heard defined =
+    RecordsImage (image_or_refusal options.flat bytes) bytes output options heard defined
 
 -- `record IMAGE OUTPUT`
 abbrev pub RecordsTo :
-    Files → List ℕ → List ℕ → RecordOptions
-    → Option (List Reply) → Option (List Reply) → Result Done Refusal → Type 0
-RecordsTo files name output options before now defined =
-    RecordsFile (file_of files name IMAGE_LIMIT) output options before now defined
+    Files → List ℕ → List ℕ → RecordOptions → (List Heard → Type 0) → Result Done Refusal → Type 0
+RecordsTo files name output options heard defined =
+    RecordsFile (file_of files name IMAGE_LIMIT) output options heard defined
 
 -- ---- generated programs
 
@@ -319,97 +323,75 @@ GENERATED_SCRIPT = codes "(at (enter mark) (emit (reg 7)))"
 abbrev pub generated_words : List (List ℕ)
 generated_words = codes "count" ∷ codes "sum=0" ∷ codes "least=0" ∷ codes "greatest=0" ∷ []
 
--- the report of a program with its recording
-unfoldable pub traced_generated : Image → Recording → Result Done Refusal
-traced_generated image rec = do
+-- a recording that is traced with them
+unfoldable pub traced_recording : Recording → Result Done Refusal
+traced_recording rec = do
+  image ← image_of rec
   script ← script_of image GENERATED_SCRIPT
   traced_with rec image script generated_words
 
--- the report of a recording of an image's run, or why there is no image
-unfoldable pub TracesRun : Result Image Refusal → ℕ → Result Done Refusal → Type 0
-TracesRun (Err why) size defined = defined ≡ Err why
-TracesRun (Ok image) size defined =
-    (rec : Recording) × IsRecordedRun image size rec × (defined ≡ traced_generated image rec)
+-- what a command comes to that generates a program: the report of its recording
+pub record Generates (seed size : ℕ) (defined : Result Done Refusal) : Type 0 where
+  pub rec : Recording
+  pub generated : IsGenerated seed size rec
+  pub script : ScriptTree
+  pub read : script_of_text GENERATED_SCRIPT generated.image.symbols ≡ Ok script
+  pub kinds : List Kind
+  pub named : kinds_of generated_words ≡ Ok kinds
+  pub reported :
+      defined ≡ Ok (only_text (report_of rec script kinds (opening generated.image [])))
 
 -- `gen SEED SIZE`
 abbrev pub GeneratesTo : ℕ → ℕ → Result Done Refusal → Type 0
-GeneratesTo seed size defined =
-    TracesRun (image_of_source (source_text seed size)) size defined
+GeneratesTo seed size defined = Generates seed size defined
 
 -- ---- all commands
 
--- what a command comes to that does not record a run
-abbrev pub done_by : Files → Order → Result Done Refusal
-done_by files (Trace recording script options) =
-    trace_by files recording script options.analyses
-done_by files (TraceAt recording address options) =
-    trace_at files recording address options.analyses
-done_by files (Replay recording) = replay files recording
-done_by files (Check recording) = check files recording
-done_by files (Recut recording output every) = recut files recording output every
-done_by files (Show image address lines flat) = show files image address lines flat
-done_by files (Asm source output) = asm files source output
-done_by files other = Err refusal.Usage
+-- what a command comes to, but for those that record a run
+abbrev pub outcome_of : Files → Order → Option (Result Done Refusal)
+outcome_of files (Trace recording script options) =
+    Some (trace_by files recording script options.analyses)
+outcome_of files (TraceAt recording address options) =
+    Some (trace_at files recording address options.analyses)
+outcome_of files (Replay recording) = Some (replay files recording)
+outcome_of files (Check recording) = Some (check files recording)
+outcome_of files (Record image output options) = None
+outcome_of files (Recut recording output every) = Some (recut files recording output every)
+outcome_of files (Show image address lines flat) = Some (show files image address lines flat)
+outcome_of files (Asm source output) = Some (asm files source output)
+outcome_of files (Gen seed size) = None
 
-abbrev pub ordered : Files → Option Order → Result Done Refusal
-ordered files None = Err refusal.Usage
-ordered files (Some order) = done_by files order
+-- words that name no command are refused
+abbrev pub ordered : Files → Option Order → Option (Result Done Refusal)
+ordered files None = Some (Err refusal.Usage)
+ordered files (Some order) = outcome_of files order
 
--- what words come to that name no command which records a run
-abbrev pub outcome : List (List ℕ) → Files → Result Done Refusal
+-- What words and files come to; None exactly where a run is recorded: what `record` comes to depends
+-- on the world, and `gen` gives the report of a recording.
+abbrev pub outcome : List (List ℕ) → Files → Option (Result Done Refusal)
 outcome words files = ordered files (order_of words)
-
--- the commands that record a run, one of a program of the user's and one of a generated program
-abbrev pub records_a_run : Option Order → Bool
-records_a_run (Some (Record image output options)) = true
-records_a_run (Some (Gen seed size)) = true
-records_a_run other = false
 
 -- the one command that asks the world
 abbrev pub asks_world : Option Order → Bool
 asks_world (Some (Record image output options)) = true
 asks_world other = false
 
--- What a command comes to, over a world that told these replies before and tells these now: every
--- command but those that record a run comes to its outcome, and the world is asked by the one that
--- records a program of the user's alone.
+-- What a command comes to, over a world that may have been asked for these calls: every command but
+-- those that record a run comes to its outcome, and the world is asked by the one that records a
+-- program of the user's alone.
 abbrev pub ComesTo :
-    Files → Option Order
-    → Option (List Reply) → Option (List Reply) → Result Done Refusal → Type 0
-ComesTo files (Some (Record image output options)) before now defined =
-    RecordsTo files image output options before now defined
-ComesTo files (Some (Gen seed size)) before now defined =
-    GeneratesTo seed size defined × (now ≡ before)
-ComesTo files named before now defined = (defined ≡ ordered files named) × (now ≡ before)
+    Files → Option Order → (List Heard → Type 0) → Result Done Refusal → Type 0
+ComesTo files (Some (Record image output options)) heard defined =
+    RecordsTo files image output options heard defined
+ComesTo files (Some (Gen seed size)) heard defined = GeneratesTo seed size defined × heard []
+ComesTo files named heard defined =
+    IsSomeAnd (ordered files named) (λ due. defined ≡ due) × heard []
 
--- A command that does not record a run ends as its outcome, says it and leaves the files so.
-abbrev pub OutcomeAnswers : List (List ℕ) → Type 0
-OutcomeAnswers words =
-    (files : Files) (before now : Option (List Reply)) (status : Status)
+-- A command that records no run ends as its outcome, says it and leaves the files so.
+abbrev pub OutcomeAnswers : {X : Type 0} → (X → Heard → X → Type 0) → List (List ℕ) → Type 0
+OutcomeAnswers {X} hears words =
+    (files : Files) (due : Result Done Refusal) (was now : X) (status : Status)
     (new : Option Files) (said says : Option (List ℕ))
-    → records_a_run (order_of words) ≡ false
-    → Answers (ComesTo files (order_of words) before now) status files new said says
-    → Ends status (outcome words files)
-    × Says status said says (text_of (outcome words files))
-    × Leaves status files new (outcome words files)
-
--- ---- epochs
-
--- Two lists of words that name one recording, one address and the same analyses have one answer,
--- whatever they say of epochs and workers.
-abbrev pub SameAnswer : List (List ℕ) → List (List ℕ) → Type 0
-SameAnswer first second =
-    (files : Files) (recording : List ℕ) (address : ℕ) (m n : TraceOptions)
-    → m.analyses ≡ n.analyses
-    → order_of first ≡ Some (TraceAt recording address m)
-    → order_of second ≡ Some (TraceAt recording address n)
-    → outcome first files ≡ outcome second files
-
--- and so do two that name one recording and one script
-abbrev pub SameScriptAnswer : List (List ℕ) → List (List ℕ) → Type 0
-SameScriptAnswer first second =
-    (files : Files) (recording script : List ℕ) (m n : TraceOptions)
-    → m.analyses ≡ n.analyses
-    → order_of first ≡ Some (Trace recording script m)
-    → order_of second ≡ Some (Trace recording script n)
-    → outcome first files ≡ outcome second files
+    → outcome words files ≡ Some due
+    → Answers (ComesTo files (order_of words) (HearsAll hears was now)) status files new said says
+    → Does status files new said says due

@@ -1,7 +1,7 @@
 -- What a command does, where it is not refused.
 use Rattle.std.specs.Prelude.{ℕ, List, [], Option, Some, None, Result, Ok, Err}
 use Rattle.std.specs.FinMap.{insert}
-use Rattle.sl_base.specs.Files.{Files}
+use Rattle.outside.specs.Files.{Files}
 use Rattle.report.specs.declared.status.Refusal.{Refusal}
 
 -- a file that is put

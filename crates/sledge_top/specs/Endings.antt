@@ -1,7 +1,7 @@
 -- How a command ends, what it says and what it leaves, by what its words and the files come to.
 use Rattle.std.specs.Prelude.{◌≡◌, ◌⊎◌, ℕ, List, Option, Some, None, Result, Err, IsOk, IsSomeAnd, ⊤}
-use Rattle.sl_base.specs.Files.{Files, SameButAt}
-use Rattle.sl_base.specs.Written.{Adds, AddsPrefix}
+use Rattle.outside.specs.Files.{Files, SameButAt}
+use Rattle.outside.specs.Written.{Adds, AddsPrefix}
 use Rattle.sl_base.specs.declared.refused.Refused.{Refused}
 use Rattle.sl_base.specs.declared.refused.Refused.TheVariants as refused
 use Rattle.report.specs.declared.status.Refusal.{Refusal}

@@ -4,5 +4,7 @@ pub mod Runs
 pub mod Show
 pub mod Answer
 pub mod Accepted
+pub mod Headline
+pub mod Merging
 pub mod Endings
 pub mod Views

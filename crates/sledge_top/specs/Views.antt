@@ -1,5 +1,7 @@
 -- What the code keeps, as the definitions have it.
-use Rattle.std.specs.Prelude.{◌≡◌, Result, Ok, Err, ⊤}
+use Rattle.std.specs.Prelude.{◌≡◌, ℕ, List, Option, Result, Ok, Err, ⊤}
+use Rattle.outside.specs.Files.{Files}
+use Rattle.report.specs.declared.status.Status.{Status}
 use Rattle.std.specs.Option.{option_map}
 use Rattle.sl_base.specs.declared.refused.Refused.{Refused}
 use Rattle.sl_base.specs.declared.refused.Refused.TheVariants as refused
@@ -9,7 +11,7 @@ use Rattle.sledge_top.specs.declared.done.Done.{Done as GivenDone}
 use Rattle.sledge_top.specs.declared.failure.Failure.{Failure}
 use Rattle.sledge_top.specs.declared.failure.Failure.TheVariants as failure
 use Rattle.sledge_top.specs.Done.{Put, Done}
-use Rattle.sledge_top.specs.Endings.{IsLater}
+use Rattle.sledge_top.specs.Endings.{IsLater, Does, GivesUp}
 
 abbrev pub put_view : GivenPut → Put
 put_view put = record { name = put.name.now; bytes = put.bytes.items }
@@ -31,6 +33,17 @@ ComesSo Is (Ok done) = Is (Ok (done_view done))
 ComesSo Is (Err (failure.Refused why)) = Is (Err why)
 ComesSo Is (Err failure.StoreFault) = ⊤
 ComesSo Is (Err failure.Memory) = ⊤
+
+-- Such a command ends so, says this and leaves the files so.
+abbrev pub Finishes :
+    Result GivenDone Failure → Status → Files → Option Files
+    → Option (List ℕ) → Option (List ℕ) → Type 0
+Finishes (Ok done) status files new said says =
+    Does status files new said says (Ok (done_view done))
+Finishes (Err (failure.Refused why)) status files new said says =
+    Does status files new said says (Err why)
+Finishes (Err failure.StoreFault) status files new said says = GivesUp status files new said says
+Finishes (Err failure.Memory) status files new said says = GivesUp status files new said says
 
 abbrev pub MaySo : (Result Done Refusal → Type 0) → Result GivenDone (Refused Refusal) → Type 0
 MaySo Is (Ok done) = Is (Ok (done_view done))

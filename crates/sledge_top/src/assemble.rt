@@ -1,7 +1,7 @@
 //! The command that assembles a source.
 
 ghost use Rattle.std.specs.Prelude.{◌≡◌, ◌≤◌, IfOk, IfErr, IfSome, IsErrOf};
-ghost use Rattle.sl_base.specs.Faults.{Rose};
+ghost use Rattle.outside.specs.Faults.{Rose};
 ghost use Rattle.sl_base.specs.Refusals.{Gives};
 ghost use Rattle.elf_image.specs.Written.{IsWritable};
 ghost use Rattle.sledge_top.specs.Answer.{assembled_line, image_of_source, asm};
@@ -12,9 +12,10 @@ use crate::done::{Done, Put};
 use crate::failure::Failure;
 use crate::store::file_of;
 use elf_image::{Image, write_image};
+use outside::Store;
 use report::Refusal;
 use rv_asm::assemble;
-use sl_base::{Memory, Refused, Store, decimal_text};
+use sl_base::{Memory, Refused, decimal_text};
 use std::alloc::Global;
 
 /// The most bytes of a source.

@@ -1,27 +1,29 @@
 //! The commands.
 
-ghost use Rattle.std.specs.Prelude.{◌≡◌, ◌≤◌, ◌⊎◌, List, ℕ, IfErr, IfSome, Some, None, IsErrOf, false};
-ghost use Rattle.sl_base.specs.Faults.{Rose};
-ghost use Rattle.sl_base.specs.Written.{Adds, AddsPrefix};
+ghost use Rattle.std.specs.Prelude.{◌≡◌, ◌≤◌, ◌⊎◌, IfErr, IfSome, Some, None, IsErrOf, false};
+ghost use Rattle.outside.specs.Faults.{Rose};
+ghost use Rattle.outside.specs.World.{HearsAll};
+ghost use Rattle.outside.specs.Written.{Adds, AddsPrefix};
 ghost use Rattle.report.specs.Status.{fault_line};
 ghost use Rattle.cli_words.specs.Orders.{order_of, Fits};
 ghost use Rattle.cli_words.specs.Views.{texts, order_view};
-ghost use Rattle.sledge_top.specs.Answer.{asks_world, ComesTo, SameAnswer, SameScriptAnswer, OutcomeAnswers};
-ghost use Rattle.sledge_top.specs.Accepted.{RecordingsAreAccepted};
+ghost use Rattle.sledge_top.specs.Answer.{asks_world, ComesTo};
 ghost use Rattle.sledge_top.specs.Endings.{IsSilent, Answers};
 ghost use Rattle.sledge_top.specs.Views.{ComesSo, IsLaterFailure};
 
 use crate::assemble::asm;
-use crate::done::{Done, finish};
+use crate::done::Done;
 use crate::failure::Failure;
+use crate::finish::finish;
 use crate::generated::generate_and_trace;
 use crate::recording::record_image;
 use crate::recutting::recut;
 use crate::show::show;
 use crate::trace::{check, replay, trace_at, trace_by};
 use cli_words::{Order, read_words};
+use outside::{Gate, Sink, Store, World};
 use report::{Refusal, Status, write_fault};
-use sl_base::{Gate, Refused, Sink, Store, World};
+use sl_base::Refused;
 use std::alloc::Global;
 use std::thread::Threads;
 
@@ -37,14 +39,14 @@ fn done_by<'a, R: Threads + Sync, S: Store, W: World, G: Gate>(
     requires { Fits (order_view order.now) }
     ensures answer { IfSome (S.told store.old) (λ files.
         ComesSo (ComesTo files (Some (order_view order.now))
-        (W.replies world.old) (W.replies world.new)) result) }
+        (HearsAll W.hears world.old world.new)) result) }
     ensures later { IfErr result IsLaterFailure }
     ensures failed { IsErrOf result Failure.StoreFault
         → Rose (S.faults store.old) (S.faults store.new) }
     ensures faults { S.faults store.old ≤ S.faults store.new }
     ensures same { S.told store.new ≡ S.told store.old }
     ensures world { asks_world (Some (order_view order.now)) ≡ false
-        → W.replies world.new ≡ W.replies world.old }
+        → world.new ≡ world.old }
 {
     match order {
         Order::Trace {
@@ -80,6 +82,36 @@ fn done_by<'a, R: Threads + Sync, S: Store, W: World, G: Gate>(
     }
 }
 
+/// Does the command that the words name, but for its file and its text.
+fn named<'a, R: Threads + Sync, S: Store, W: World, G: Gate>(
+    rt: &R,
+    alloc: Global,
+    words: &'a [String],
+    store: &mut S,
+    world: &mut W,
+    gate: &G,
+) -> Result<Done<'a>, Failure>
+    ensures usage { IsErrOf result (Failure.Refused Refusal.Usage)
+        → order_of (texts words.now) ≡ None }
+    ensures usage_always { order_of (texts words.now) ≡ None
+        → IsErrOf result (Failure.Refused Refusal.Usage) ⊎ IsErrOf result Failure.Memory }
+    ensures answer { IfSome (S.told store.old) (λ files.
+        ComesSo (ComesTo files (order_of (texts words.now))
+        (HearsAll W.hears world.old world.new)) result) }
+    ensures failed { IsErrOf result Failure.StoreFault
+        → Rose (S.faults store.old) (S.faults store.new) }
+    ensures faults { S.faults store.old ≤ S.faults store.new }
+    ensures same { S.told store.new ≡ S.told store.old }
+    ensures world { asks_world (order_of (texts words.now)) ≡ false → world.new ≡ world.old }
+{
+    let order = match read_words(alloc, words) {
+        Ok(order) => order,
+        Err(Refused::Fault(_)) => return Err(Failure::Refused(Refusal::Usage)),
+        Err(Refused::Memory) => return Err(Failure::Memory),
+    };
+    done_by(rt, alloc, &order, store, world, gate)
+}
+
 /// Does a command but for the line of the second output.
 fn run<R: Threads + Sync, S: Store, W: World, O: Sink, G: Gate>(
     rt: &R,
@@ -95,26 +127,17 @@ fn run<R: Threads + Sync, S: Store, W: World, O: Sink, G: Gate>(
         → (result ≡ Status.Refused Refusal.Usage) ⊎ (result ≡ Status.Memory) }
     ensures answer { IfSome (S.told store.old) (λ files.
         Answers (ComesTo files (order_of (texts words.now))
-        (W.replies world.old) (W.replies world.new))
+        (HearsAll W.hears world.old world.new))
         result files (S.told store.new) (O.written out.old) (O.written out.new)) }
     ensures store_fault { result ≡ Status.StoreFault
         → Rose (S.faults store.old) (S.faults store.new) }
     ensures sink_fault { result ≡ Status.SinkFault → Rose (O.faults out.old) (O.faults out.new) }
     ensures silent { IsSilent result → O.written out.new ≡ O.written out.old }
     ensures world { asks_world (order_of (texts words.now)) ≡ false
-        → W.replies world.new ≡ W.replies world.old }
+        → world.new ≡ world.old }
 {
-    let order = match read_words(alloc, words) {
-        Ok(order) => order,
-        Err(Refused::Fault(_)) => return Status::Refused(Refusal::Usage),
-        Err(Refused::Memory) => return Status::Memory,
-    };
-    match done_by(rt, alloc, &order, store, world, gate) {
-        Ok(done) => finish(alloc, &done, store, out),
-        Err(Failure::Refused(why)) => Status::Refused(why),
-        Err(Failure::StoreFault) => Status::StoreFault,
-        Err(Failure::Memory) => Status::Memory,
-    }
+    let outcome = named(rt, alloc, words, store, world, gate);
+    finish(alloc, outcome, store, out)
 }
 
 /// Does the command that the words name. It returns for every command, and waits on nothing.
@@ -144,7 +167,7 @@ pub fn sledge<R: Threads + Sync, S: Store, W: World, O: Sink, E: Sink, G: Gate>(
     // or none. Memory alone may be wanting for no reason, and then nothing was written or put.
     ensures answer { IfSome (S.told store.old) (λ files.
         Answers (ComesTo files (order_of (texts words.now))
-        (W.replies world.old) (W.replies world.new))
+        (HearsAll W.hears world.old world.new))
         result files (S.told store.new) (O.written out.old) (O.written out.new)) }
 
     // A fault of the store or of the first output comes only where its count of faults rose.
@@ -164,27 +187,9 @@ pub fn sledge<R: Threads + Sync, S: Store, W: World, O: Sink, E: Sink, G: Gate>(
 
     // The world is asked by the command that records alone.
     ensures world { asks_world (order_of (texts words.now)) ≡ false
-        → W.replies world.new ≡ W.replies world.old }
+        → world.new ≡ world.old }
 {
     let status = run(rt, alloc, words, store, world, out, gate);
     let _ = write_fault(err, &status);
     status
 }
-
-/// Words that differ in `--workers` and `--epochs` alone, with the same analyses, have one answer, whatever the files are.
-pub fn same_answer()
-    ensures at { (first second : List (List ℕ)) → SameAnswer first second }
-    ensures script { (first second : List (List ℕ)) → SameScriptAnswer first second }
-{}
-
-/// A command that does not record a run ends as its words and the files come to, says it, and leaves
-/// the files so: its answer is the one that they name alone.
-pub fn answers_are_outcomes()
-    ensures { (words : List (List ℕ)) → OutcomeAnswers words }
-{}
-
-/// What the command that records puts is a recording that the other commands accept: it is read
-/// again, replays without a break, and cut anew by the same distance has the same bytes.
-pub fn recordings_are_accepted()
-    ensures { RecordingsAreAccepted }
-{}

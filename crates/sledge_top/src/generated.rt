@@ -1,26 +1,25 @@
 //! The command that generates a program, records its run and traces it.
 
 ghost use Rattle.std.specs.Prelude.{◌≡◌, ◌≤◌, Ok, IfOk, IfErr, IsErrOf};
-ghost use Rattle.sl_base.specs.Refusals.{Fails, Gives};
-ghost use Rattle.elf_image.specs.Loadable.{IsLoadable};
+ghost use Rattle.sl_base.specs.Refusals.{Gives};
 ghost use Rattle.rec_format.specs.Rules.{IsRecordingValue};
-ghost use Rattle.workload.specs.Source.{source_text};
-ghost use Rattle.workload.specs.Generated.{IsRecordedRun};
 ghost use Rattle.cli_words.specs.Orders.{FitsTrace};
 ghost use Rattle.cli_words.specs.Views.{words_view, trace_view};
-ghost use Rattle.sledge_top.specs.Answer.{image_of_source, generated_words, traced_generated, GeneratesTo};
+ghost use Rattle.sledge_top.specs.Answer.{generated_words, traced_recording, GeneratesTo};
 ghost use Rattle.sledge_top.specs.Endings.{IsLaterFault};
-ghost use Rattle.sledge_top.specs.Views.{done_view, MaySo, ComesSo, IsLaterFailure};
+ghost use Rattle.sledge_top.specs.Views.{done_view, ComesSo, IsLaterFailure};
 
 use crate::done::Done;
 use crate::failure::Failure;
-use crate::trace::{script_of, traced_with};
+use crate::trace::{image_of, script_of, traced_with};
 use cli_words::TraceOptions;
+use outside::Gate;
+use rec_format::Recording;
 use report::Refusal;
-use sl_base::{Gate, Memory, Refused};
+use sl_base::{Memory, Refused};
 use std::alloc::Global;
 use std::thread::Threads;
-use workload::{Generated, generate};
+use workload::{every_program_assembles, generate};
 
 /// The tracer of a generated program: it emits each sum before it is stored.
 const SCRIPT: &[u8] = b"(at (enter mark) (emit (reg 7)))";
@@ -46,38 +45,19 @@ fn trace_options<'a>(alloc: Global) -> Result<TraceOptions<'a>, Memory>
     })
 }
 
-/// A generated program with the recording of its run, or how the command is refused.
-fn generated(alloc: Global, seed: u32, size: u32) -> Result<Generated, Refused<Refusal>>
-    requires { 1 ≤ size }
-    ensures image { IfOk result (λ made.
-        image_of_source (source_text seed size) ≡ Ok made.image) }
-    ensures recorded { IfOk result (λ made. IsRecordedRun made.image size made.rec) }
-    ensures loadable { IfOk result (λ made. IsLoadable made.image) }
-    ensures refused { IfErr result (λ why.
-        Fails why (image_of_source (source_text seed size))) }
-    ensures later { IfErr result IsLaterFault }
-{
-    match generate(alloc, seed, size) {
-        Ok(made) => Ok(made),
-        Err(Refused::Fault(fault)) => Err(Refused::Fault(Refusal::AsmRefused(fault))),
-        Err(Refused::Memory) => Err(Refused::Memory),
-    }
-}
-
-/// The report of a generated program.
-#[tactic(auto, unfolding(crate::specs::Answer::traced_generated))]
-fn traced_generated<'a, R: Threads + Sync, G: Gate>(
+/// The report of a recording, as that of a generated program.
+#[tactic(auto, unfolding(crate::specs::Answer::traced_recording))]
+fn traced_recording<'a, R: Threads + Sync, G: Gate>(
     rt: &R,
     alloc: Global,
-    made: Generated,
+    rec: Recording,
     gate: &G,
 ) -> Result<Done<'a>, Refused<Refusal>>
-    requires rules { IsRecordingValue made.rec }
-    requires loadable { IsLoadable made.image }
-    ensures value { Gives done_view result (traced_generated made.image made.rec) }
+    requires { IsRecordingValue rec }
+    ensures value { Gives done_view result (traced_recording rec) }
     ensures later { IfErr result IsLaterFault }
 {
-    let Generated { image, rec } = made;
+    let image = image_of(alloc, &rec)?;
     let script = script_of(alloc, &image, SCRIPT)?;
     let options = trace_options(alloc)?;
     traced_with(rt, alloc, rec, image, script, &options, gate)
@@ -90,13 +70,18 @@ fn generated_report<'a, R: Threads + Sync, G: Gate>(
     seed: u32,
     size: u32,
     gate: &G,
-) -> Result<Done<'a>, Refused<Refusal>>
-    requires { 1 ≤ size }
-    ensures answer { MaySo (GeneratesTo seed size) result }
-    ensures later { IfErr result IsLaterFault }
+) -> Result<Done<'a>, Memory>
+    requires some { 1 ≤ size }
+    requires most { size ≤ 1000000 }
+    ensures { IfOk result (λ done. GeneratesTo seed size (Ok (done_view done))) }
 {
-    let made = generated(alloc, seed, size)?;
-    traced_generated(rt, alloc, made, gate)
+    every_program_assembles();
+    let rec = generate(alloc, seed, size)?;
+    match traced_recording(rt, alloc, rec, gate) {
+        Ok(done) => Ok(done),
+        Err(Refused::Memory) => Err(Memory),
+        Err(Refused::Fault(_)) => unreachable!(),
+    }
 }
 
 /// `gen SEED SIZE`: generates a program, records its run, and gives the report of its trace.
@@ -107,7 +92,8 @@ pub fn generate_and_trace<'a, R: Threads + Sync, G: Gate>(
     size: u32,
     gate: &G,
 ) -> Result<Done<'a>, Failure>
-    requires { 1 ≤ size }
+    requires some { 1 ≤ size }
+    requires most { size ≤ 1000000 }
     ensures answer { ComesSo (GeneratesTo seed size) result }
     ensures later { IfErr result IsLaterFailure }
     ensures no_store { ¬ (IsErrOf result Failure.StoreFault) }

@@ -5,8 +5,10 @@ mod assemble;
 mod command;
 mod done;
 mod failure;
+mod finish;
 mod generated;
 mod kinds;
+mod laws;
 mod recording;
 mod recutting;
 mod runs;
@@ -14,7 +16,11 @@ mod show;
 mod store;
 mod trace;
 
-pub use command::{answers_are_outcomes, recordings_are_accepted, same_answer, sledge};
+pub use command::sledge;
+pub use laws::{
+    answers_are_outcomes, posts_merge, recordings_are_accepted, same_answer, traces_are_one_run,
+    traces_complete,
+};
 pub use report::{Refusal, Status, write_fault};
 
 #[cfg(test)]

@@ -1,7 +1,8 @@
 //! The command that records a program, and recordings that are put.
 
 ghost use Rattle.std.specs.Prelude.{◌≡◌, ◌≤◌, vec_len, IfOk, IfErr, IfSome, IsErrOf};
-ghost use Rattle.sl_base.specs.Faults.{Rose};
+ghost use Rattle.outside.specs.Faults.{Rose};
+ghost use Rattle.outside.specs.World.{HearsAll};
 ghost use Rattle.sl_base.specs.Refusals.{Gives};
 ghost use Rattle.elf_image.specs.Loadable.{IsLoadable};
 ghost use Rattle.rec_format.specs.declared.limits.TheConstants.{MOST_IMAGE_BYTES};
@@ -20,9 +21,10 @@ use crate::store::file_of;
 use call_recorder::{ImageSource, record_run};
 use cli_words::RecordOptions;
 use elf_image::Image;
+use outside::{Store, World};
 use rec_format::{Recording, TooLarge, write_recording};
 use report::{Refusal, recorded_text};
-use sl_base::{Memory, Refused, Seq, Store, World};
+use sl_base::{Memory, Refused, Seq};
 use std::alloc::Global;
 
 /// The bytes of a recording, where a recording may have so many.
@@ -106,7 +108,7 @@ fn run_over<W: World>(
     requires source { IsSource source }
     requires options { FitsRecord (record_view options.now) }
     ensures { IfOk result (IsRecorded image.now source (record_view options.now).arguments
-        options.now.limit options.now.every (W.replies world.old) (W.replies world.new)) }
+        options.now.limit options.now.every (HearsAll W.hears world.old world.new)) }
 {
     let args = arguments_of(alloc, &options.arguments)?;
     record_run(
@@ -133,7 +135,7 @@ fn record_program<'a, W: World>(
     requires source { IsSource source }
     requires options { FitsRecord (record_view options.now) }
     ensures answer { MaySo (RecordsProgram image.now source output.now (record_view options.now)
-        (W.replies world.old) (W.replies world.new)) result }
+        (HearsAll W.hears world.old world.new)) result }
     ensures later { IfErr result IsLaterFault }
 {
     let rec = run_over(alloc, image, source, options, world)?;
@@ -152,7 +154,7 @@ fn record_bytes<'a, W: World>(
     requires options { FitsRecord (record_view options.now) }
     ensures answer { MaySo (RecordsImage (image_or_refusal options.now.flat bytes.items)
         bytes.items output.now (record_view options.now)
-        (W.replies world.old) (W.replies world.new)) result }
+        (HearsAll W.hears world.old world.new)) result }
     ensures later { IfErr result IsLaterFault }
 {
     let image = image_or_refusal(alloc, options.flat, &bytes)?;
@@ -172,7 +174,7 @@ pub fn record_image<'a, S: Store, W: World>(
     requires { FitsRecord (record_view options.now) }
     ensures answer { IfSome (S.told store.old) (λ files.
         ComesSo (RecordsTo files name.now output.now (record_view options.now)
-        (W.replies world.old) (W.replies world.new)) result) }
+        (HearsAll W.hears world.old world.new)) result) }
     ensures failed { IsErrOf result Failure.StoreFault
         → Rose (S.faults store.old) (S.faults store.new) }
     ensures later { IfErr result IsLaterFailure }

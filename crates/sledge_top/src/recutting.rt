@@ -1,7 +1,7 @@
 //! The command that gives a recording other checkpoints.
 
 ghost use Rattle.std.specs.Prelude.{◌≡◌, ◌≤◌, IfOk, IfErr, IfSome, IsErrOf};
-ghost use Rattle.sl_base.specs.Faults.{Rose};
+ghost use Rattle.outside.specs.Faults.{Rose};
 ghost use Rattle.sl_base.specs.Refusals.{Gives};
 ghost use Rattle.elf_image.specs.Loadable.{IsLoadable};
 ghost use Rattle.rec_format.specs.Rules.{IsRecordingValue};
@@ -19,9 +19,10 @@ use crate::trace::{no_tracers, plan_of, recorded_in, replay_plan};
 use call_recorder::recut as recut_run;
 use elf_image::Image;
 use epoch_run::Plan;
+use outside::{Gate, Store};
 use rec_format::Recording;
 use report::Refusal;
-use sl_base::{Gate, Refused, Seq, Store};
+use sl_base::{Refused, Seq};
 use std::alloc::Global;
 use std::thread::Threads;
 

@@ -1,7 +1,7 @@
 //! The command that shows an image.
 
 ghost use Rattle.std.specs.Prelude.{◌≡◌, ◌≤◌, ◌<◌, ◌^◌, ◌++◌, [], length, OnOk, IfOk, IfErr, IfSome, IsErrOf};
-ghost use Rattle.sl_base.specs.Faults.{Rose};
+ghost use Rattle.outside.specs.Faults.{Rose};
 ghost use Rattle.sl_base.specs.Refusals.{Gives};
 ghost use Rattle.elf_image.specs.Loadable.{IsLoadable};
 ghost use Rattle.replay.specs.Opening.{opening};
@@ -14,12 +14,13 @@ use crate::done::Done;
 use crate::failure::Failure;
 use crate::store::file_of;
 use elf_image::{Image, ImageFault, flat_image, read_image};
+use outside::Store;
 use page_frames::Frames;
 use replay::load;
 use report::Refusal;
 use rv_decode::decode;
 use rv_text::print_instr;
-use sl_base::{Memory, Refused, Store, word_text};
+use sl_base::{Memory, Refused, word_text};
 use sl_model::{Bus, STACK_END, STACK_START};
 use std::alloc::Global;
 

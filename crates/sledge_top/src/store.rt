@@ -1,13 +1,14 @@
 //! Files of the store, and how a command ends without them.
 
 ghost use Rattle.std.specs.Prelude.{◌≡◌, ◌≤◌, vec_len, IfOk, IfErr, IfSome, IsErrOf};
-ghost use Rattle.sl_base.specs.Faults.{Rose};
+ghost use Rattle.outside.specs.Faults.{Rose};
 ghost use Rattle.sledge_top.specs.Answer.{file_of};
 ghost use Rattle.sledge_top.specs.Views.{Comes, IsLaterFailure};
 
 use crate::failure::Failure;
+use outside::{GetFault, Store};
 use report::Refusal;
-use sl_base::{GetFault, Seq, Store};
+use sl_base::Seq;
 use std::alloc::{AllocError, Global};
 
 /// A file's name, for the line that tells of it.

@@ -1,7 +1,7 @@
 //! The commands over one recording.
 
 ghost use Rattle.std.specs.Prelude.{◌≡◌, ◌≤◌, [], IfOk, IfErr, IfSome, IsErrOf};
-ghost use Rattle.sl_base.specs.Faults.{Rose};
+ghost use Rattle.outside.specs.Faults.{Rose};
 ghost use Rattle.sl_base.specs.Refusals.{Gives};
 ghost use Rattle.elf_image.specs.Loadable.{IsLoadable};
 ghost use Rattle.rec_format.specs.Rules.{IsRecordingValue};
@@ -27,10 +27,11 @@ use cli_words::TraceOptions;
 use elf_image::{Image, ImageFault, flat_image, read_image};
 use epoch_cut::cut;
 use epoch_run::{CompiledScript, Plan, at_script, runs_end_as_recorded};
+use outside::{Gate, Store};
 use rec_format::{Recording, read_recording};
 use replay::load;
 use report::{Refusal, checked_text, recorded_end, report_text};
-use sl_base::{Gate, Memory, Refused, Seq, Store};
+use sl_base::{Memory, Refused, Seq};
 use std::alloc::Global;
 use std::thread::Threads;
 use tracepoints::Points;
@@ -71,7 +72,7 @@ fn image_in(alloc: Global, rec: &Recording) -> Result<Image, Refused<ImageFault>
 }
 
 /// The same, or how the command is refused.
-fn image_of(alloc: Global, rec: &Recording) -> Result<Image, Refused<Refusal>>
+pub fn image_of(alloc: Global, rec: &Recording) -> Result<Image, Refused<Refusal>>
     requires { IsRecordingValue rec.now }
     ensures value { Gives (λ image. image) result (image_of rec.now) }
     ensures loadable { IfOk result IsLoadable }

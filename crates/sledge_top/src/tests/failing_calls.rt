@@ -1,10 +1,9 @@
 //! Calls of the store and of both outputs that fail, as one table.
 
 use super::recorded::{EXITS, store_with};
-use super::recordings::{recording, words};
+use super::recordings::{EXITS as EXITS_RECORDING, recording, words};
 use super::running::ended;
-use super::traces::EXITS as EXITS_RECORDING;
-use sl_base::{MemorySink, MemoryStore, MemoryWorld, NoGate, Sink, SinkFailed};
+use outside::{MemorySink, MemoryStore, MemoryWorld, NoGate, Sink, SinkFailed};
 use std::alloc::Global;
 use std::process::Abort;
 use std::test::Fail;

@@ -3,8 +3,9 @@
 use super::recordings::words;
 use super::running::told_over;
 use call_log::CallEntry;
+use outside::{MemoryStore, MemoryWorld, Reply};
 use rec_format::{Recording, read_recording};
-use sl_base::{MemoryStore, MemoryWorld, Reply, Seq};
+use sl_base::Seq;
 use std::alloc::Global;
 use std::process::Abort;
 use std::test::Fail;
@@ -25,7 +26,7 @@ pub fn store_with(
 
 /// Runs commands one after the other over a store and a world. Each row is the words of a command,
 /// and then the number that it ends with and what it writes, with `|` for each line feed.
-pub fn run_all<R: Threads + Sync + Abort>(
+fn run_all<R: Threads + Sync + Abort>(
     rt: &R,
     alloc: Global,
     store: &mut MemoryStore,
@@ -45,13 +46,8 @@ pub fn run_all<R: Threads + Sync + Abort>(
     Ok(())
 }
 
-/// The bytes of a file in a store.
-pub fn bytes_of(alloc: Global, store: &MemoryStore, name: &str) -> Result<Vec<u8>, Fail> {
-    Ok(store.file(name).ok_or("no file")?.to_vec(alloc)?)
-}
-
 /// The recording in a file of a store.
-pub fn recording_in(alloc: Global, store: &MemoryStore, name: &str) -> Result<Recording, Fail> {
+fn recording_in(alloc: Global, store: &MemoryStore, name: &str) -> Result<Recording, Fail> {
     match read_recording(alloc, store.file(name).ok_or("no file")?) {
         Ok(rec) => Ok(rec),
         Err(_) => Err("no recording".into()),
@@ -61,39 +57,20 @@ pub fn recording_in(alloc: Global, store: &MemoryStore, name: &str) -> Result<Re
 /// Loads 5 into a0 and exits.
 pub const EXITS: &str = "00500513 05d00893 73";
 
-/// Programs that end in each way, and recordings that are cut anew.
+/// Recordings that are cut anew.
 const COMMANDS: &str = "\
 record exits r1.rec --flat 10000 => 0 recorded 3 exited 0x00000005|
-check r1.rec => 0 checked 0 calls, 0 checkpoints, end 3|
-replay r1.rec => 0 end,exited,3,,0x0001000c,,0x00000005|\
-regs,x,,,,,x2=0x7fffffe0 x10=0x00000005 x17=0x0000005d|
 recut r1.rec r2.rec --every 2 => 0 recorded 3 exited 0x00000005|
-check r2.rec => 0 checked 0 calls, 1 checkpoints, end 3|
 record exits r3.rec --flat 0x10000 --every 2 => 0 recorded 3 exited 0x00000005|
 recut r3.rec r4.rec => 0 recorded 3 exited 0x00000005|
-record exits s.rec --flat 10000 --limit 2 => 0 recorded 2 stopped 0x00000000|
-recut s.rec s.rec --every 1 => 0 recorded 2 stopped 0x00000000|
-check s.rec => 0 checked 0 calls, 1 checkpoints, end 2|
-replay s.rec => 0 end,stopped,2,,0x00010008,,0x00000000|\
-regs,x,,,,,x2=0x7fffffe0 x10=0x00000005 x17=0x0000005d|
-record traps t.rec --flat 10000 => 0 recorded 1 trapped 0x00000002|
-replay t.rec => 0 end,trapped,1,,0x00010004,,0x00000002|regs,x,,,,,x2=0x7fffffe0 x10=0x00000005|
-record exits a.rec --flat 10000 --arg ab => 0 recorded 3 exited 0x00000005|
-replay a.rec => 0 end,exited,3,,0x0001000c,,0x00000005|\
-regs,x,,,,,x2=0x7fffffd0 x10=0x00000005 x17=0x0000005d|
 ";
 
-/// A store with two images, one that exits and one that traps.
-fn two_images(alloc: Global) -> Result<MemoryStore, Fail> {
-    let exits = words(alloc, EXITS)?;
-    let traps = words(alloc, "00500513 0")?;
-    store_with(alloc, &[("exits", &exits), ("traps", &traps)], &[])
-}
-
+/// What is recorded with checkpoints at a distance, and what is cut anew to it, are the same files.
 #[test]
-fn ends(rt: HostRuntime) -> Result<(), Fail> {
+fn files_that_are_put(rt: HostRuntime) -> Result<(), Fail> {
     let alloc = rt.alloc();
-    let mut store = two_images(alloc)?;
+    let exits = words(alloc, EXITS)?;
+    let mut store = store_with(alloc, &[("exits", &exits)], &[])?;
     let mut world = MemoryWorld::new(Vec::new(alloc));
     run_all(&rt, alloc, &mut store, &mut world, COMMANDS)?;
     for (name, other, len) in [("r1.rec", "r4.rec", 204), ("r2.rec", "r3.rec", 356)] {
@@ -125,7 +102,7 @@ fn puts_that_fail(rt: HostRuntime) -> Result<(), Fail> {
 }
 
 /// A program as a small C library makes it.
-pub const LIBRARY: &str = "\
+const LIBRARY: &str = "\
 _start: li a0, 1
 la a1, buf
 li a7, 80
@@ -163,7 +140,7 @@ regs,x,,,,,x1=0x00010030 x2=0x7fffffe0 x5=0x00001000 x11=0x00011000 x12=0x000000
 ";
 
 /// A world that answers 3, and then nothing.
-pub fn world_of_one(alloc: Global) -> Result<MemoryWorld, Fail> {
+fn world_of_one(alloc: Global) -> Result<MemoryWorld, Fail> {
     let reply = Reply {
         result: 3,
         bytes: Seq::new(alloc),
@@ -198,99 +175,6 @@ fn small_library(rt: HostRuntime) -> Result<(), Fail> {
     let rec = recording_in(alloc, &store, "p.rec")?;
     check_calls(&rt, rec.calls.as_slice());
     Ok(())
-}
-
-/// Stores a word into a buffer and exits.
-const STORES: &str = "\
-_start: la t0, buf
-li t1, 0x01020304
-sw t1, 5(t0)
-li a7, 93
-ecall
-.data
-buf: .space 16
-";
-
-const STORES_COMMANDS: &str = "\
-asm a.s a.elf => 0 assembled 340 bytes|
-record a.elf a.rec --every 1 => 0 recorded 7 exited 0x00000000|
-check a.rec => 0 checked 0 calls, 6 checkpoints, end 7|
-";
-
-/// Where the checkpoints of a recording without arguments and calls begin.
-fn checkpoints_at(rec: &Recording) -> usize {
-    32usize.saturating_add(rec.image.len())
-}
-
-/// Checks that a recording with some of its bytes changed is refused.
-pub fn check_changed<R: Threads + Sync + Abort>(
-    rt: &R,
-    alloc: Global,
-    bytes: &[u8],
-    changes: &[(usize, u8)],
-    rows: &str,
-) -> Result<(), Fail> {
-    let mut bytes = bytes.to_vec(alloc)?;
-    for &(place, value) in changes {
-        *bytes.get_mut(place).ok_or("no such byte")? = value;
-    }
-    let mut store = store_with(alloc, &[("a", &bytes)], &[])?;
-    let mut world = MemoryWorld::new(Vec::new(alloc));
-    run_all(rt, alloc, &mut store, &mut world, rows)
-}
-
-const LISTED: &str = "\
-replay a => 9 sledge: checkpoint 5 differs at count 5, part 35, at 0x00011005: \
-recorded 0x00000005, replayed 0x00000004|
-recut a b => 9 sledge: checkpoint 5 differs at count 5, part 35, at 0x00011005: \
-recorded 0x00000005, replayed 0x00000004|
-replay b => 2 sledge: absent: b|
-";
-
-const REGISTER: &str = "\
-replay a => 9 sledge: checkpoint 3 differs at count 3, part 5, at 0x00000000: \
-recorded 0x00011001, replayed 0x00011000|
-recut a b => 9 sledge: checkpoint 3 differs at count 3, part 5, at 0x00000000: \
-recorded 0x00011001, replayed 0x00011000|
-";
-
-const END: &str = "\
-recut a b => 8 sledge: replay broken at count 7: end is exited 0x00000000, \
-recorded exited 0x00000009|
-";
-
-const COMPRESSED: &str = "\
-record a b => 5 sledge: image broken at 36: Compressed|
-record a b --flat 7ff00000 => 5 sledge: image broken at 0: Overlap|
-";
-
-/// Checks that the recording is refused with bytes of its checkpoints, which begin at a place,
-/// and of its end changed. Checkpoint 5 is the first that lists a page, and the bytes of the end
-/// stand behind the last.
-fn check_changed_recording<R: Threads + Sync + Abort>(
-    rt: &R,
-    alloc: Global,
-    bytes: &[u8],
-    first: usize,
-) -> Result<(), Fail> {
-    let listed = first.saturating_add(5 * 152 + 4 + 5);
-    let register = first.saturating_add(2 * 152 + 28);
-    let end = bytes.len().saturating_sub(156);
-    check_changed(rt, alloc, bytes, &[(listed, 5)], LISTED)?;
-    check_changed(rt, alloc, bytes, &[(register, 1), (end, 9)], REGISTER)?;
-    check_changed(rt, alloc, bytes, &[(end, 9)], END)
-}
-
-#[test]
-fn changed_files(rt: HostRuntime) -> Result<(), Fail> {
-    let alloc = rt.alloc();
-    let mut store = store_with(alloc, &[("a.s", STORES.as_bytes())], &[])?;
-    let mut world = MemoryWorld::new(Vec::new(alloc));
-    run_all(&rt, alloc, &mut store, &mut world, STORES_COMMANDS)?;
-    let image = bytes_of(alloc, &store, "a.elf")?;
-    check_changed(&rt, alloc, &image, &[(36, 1)], COMPRESSED)?;
-    let first = checkpoints_at(&recording_in(alloc, &store, "a.rec")?);
-    check_changed_recording(&rt, alloc, &bytes_of(alloc, &store, "a.rec")?, first)
 }
 
 /// Writes 65,536 bytes 4,096 times.

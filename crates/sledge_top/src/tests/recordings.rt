@@ -134,6 +134,13 @@ pub fn recording(alloc: Global, recipe: &str) -> Result<Vec<u8>, Fail> {
     Ok(bytes)
 }
 
+/// The recipe of a recording whose program loads 5 into a0 and exits.
+pub const EXITS: &str = "\
+words 0 10000 c 00500513 05d00893 73 0 0 0
+words 0 5
+at 3 1000c 0 a=5 11=5d
+";
+
 /// The bytes of numbers of four bytes.
 pub fn words(alloc: Global, words: &str) -> Result<Vec<u8>, Fail> {
     let mut bytes = Vec::new(alloc);

@@ -1,87 +1,11 @@
-//! Refusals by words and files, and outputs that fail.
+//! Files that are not got, and outputs that fail.
 
-use super::recordings::recording;
-use super::running::{store_of, tells, told_in};
-use super::traces::{EXITS, filled};
-use sl_base::{GetFault, MemoryWorld, NoGate, PutFault, Store};
+use super::recordings::{EXITS, recording};
+use super::running::{filled, store_of, told_in};
+use outside::{GetFault, MemoryWorld, NoGate, PutFault, Store};
 use std::alloc::Global;
 use std::test::Fail;
 use std::thread::Threads;
-
-/// Words over an empty file named `a.rec`, and how the command ends.
-const ROWS: &str = "\
-trace => 1 sledge: usage
-trace a.rec => 1 sledge: usage
- => 1 sledge: usage
-trace a.rec at => 1 sledge: usage
-trace a.rec at 0 0 => 1 sledge: usage
-trace -x at 0 => 1 sledge: usage
-trace -- at 0 => 2 sledge: absent: at
-trace a.rec to 0 => 1 sledge: usage
-Trace a.rec at 0 => 1 sledge: usage
-trace a.rec at 0x => 1 sledge: usage
-trace a.rec at 0X1 => 1 sledge: usage
-trace a.rec at 123456789 => 1 sledge: usage
-trace a.rec at 1g => 1 sledge: usage
-trace a.rec at +1 => 1 sledge: usage
-trace none.rec at 0 => 2 sledge: absent: none.rec
-trace - at 0 => 2 sledge: absent: -
-trace none.rec at 0xFFffFFff => 2 sledge: absent: none.rec
-trace a.rec at 10008 => 4 sledge: recording broken at 0: Short
-trace a.rec at 0 --epochs => 1 sledge: usage
-trace a.rec at 0 --epochs= => 1 sledge: usage
-trace a.rec at 0 --epochs 0 => 1 sledge: usage
-trace a.rec at 0 --epochs 4097 => 1 sledge: usage
-trace a.rec at 0 --epochs -1 => 1 sledge: usage
-trace a.rec at 0 --epochs 0x2 => 1 sledge: usage
-trace a.rec at 0 --epoch 2 => 1 sledge: usage
-trace a.rec at 0 --epochs 00000000000002 => 1 sledge: usage
-trace a.rec at 0 --epochs=2 --epochs=2 => 1 sledge: usage
---epochs=2 trace a.rec at 0 => 1 sledge: usage
-trace --epochs 4096 none.rec at 0 => 2 sledge: absent: none.rec
-trace none.rec --epochs=0000000000001 at 0 => 2 sledge: absent: none.rec
-trace none.rec at --epochs 1 0 => 2 sledge: absent: none.rec
-trace none.rec at 0 --workers 1 --analyse all => 2 sledge: absent: none.rec
-trace none.rec at 0 --workers 2 => 2 sledge: absent: none.rec
-trace none.rec at 0 --workers 16 => 2 sledge: absent: none.rec
-trace none.rec at 0 --workers 17 => 1 sledge: usage
-trace none.rec at 0 --workers 0 => 1 sledge: usage
-trace none.rec at 0 --workers 1x => 1 sledge: usage
-trace none.rec at 0 --analyse mean => 2 sledge: absent: none.rec
-trace a.rec at 0 --analyse mean => 4 sledge: recording broken at 0: Short
-trace none.rec none.sl => 2 sledge: absent: none.rec
-trace a.rec none.sl => 4 sledge: recording broken at 0: Short
-trace none.rec none.sl --workers 17 => 1 sledge: usage
-trace none.rec none.sl -x => 1 sledge: usage
-replay none.rec => 2 sledge: absent: none.rec
-replay a.rec => 4 sledge: recording broken at 0: Short
-replay none.rec --epochs 2 => 1 sledge: usage
-check none.rec => 2 sledge: absent: none.rec
-check a.rec => 4 sledge: recording broken at 0: Short
-record none.elf b.rec => 2 sledge: absent: none.elf
-record a.rec b.rec => 5 sledge: image broken at 0: Short
-record a.rec b.rec --flat 10000 => 5 sledge: image broken at 0: Segment range
-record a.rec b.rec --limit 0 => 1 sledge: usage
-recut none.rec b.rec => 2 sledge: absent: none.rec
-recut a.rec b.rec => 4 sledge: recording broken at 0: Short
-recut a.rec b.rec --every 0 => 1 sledge: usage
-asm none.s b.elf => 2 sledge: absent: none.s
-show none.elf 0 1 => 2 sledge: absent: none.elf
-show a.rec 0 1 => 5 sledge: image broken at 0: Short
-show a.rec 0 1 --flat 10000 => 5 sledge: image broken at 0: Segment range
-gen 0 0 => 1 sledge: usage
-";
-
-#[test]
-fn refusals(rt: HostRuntime) -> Result<(), Fail> {
-    let alloc = rt.alloc();
-    for row in ROWS.lines() {
-        let (words, text) = row.split_once(" => ").ok_or("no row")?;
-        let text = format!(in alloc; "{text}\n")?;
-        assert!(rt; tells(&rt, alloc, &[], words, text.as_str())?, "{row}");
-    }
-    Ok(())
-}
 
 /// A store whose one file is longer than any limit.
 #[derive(Drop)]

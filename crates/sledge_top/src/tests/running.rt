@@ -1,7 +1,7 @@
 //! Runs commands over files in memory.
 
 use crate::sledge;
-use sl_base::{Gate, MemorySink, MemoryStore, MemoryWorld, NoGate, Sink, Store, World};
+use outside::{Gate, MemorySink, MemoryStore, MemoryWorld, NoGate, Sink, Store, World};
 use std::alloc::Global;
 use std::test::Fail;
 use std::thread::Threads;
@@ -108,4 +108,17 @@ pub fn tells<R: Threads + Sync>(
     text: &str,
 ) -> Result<bool, Fail> {
     Ok(told(rt, alloc, bytes, words)?.as_slice() == text.as_bytes())
+}
+
+/// A text with a value in the place of each such character.
+pub fn filled(alloc: Global, text: &str, hole: char, value: &str) -> Result<String, Fail> {
+    let mut whole = String::new(alloc);
+    for c in text.chars() {
+        if c == hole {
+            whole.push_str(value)?;
+        } else {
+            whole.push(c)?;
+        }
+    }
+    Ok(whole)
 }

@@ -2,7 +2,7 @@
 
 use super::recordings::recording;
 use super::running::{store_of, tells, told_at};
-use sl_base::{Gate, MemoryWorld, NoGate};
+use outside::{Gate, MemoryWorld, NoGate};
 use std::alloc::Global;
 use std::sync::atomic::{AtomicU64, Ordering};
 use std::test::Fail;
@@ -42,32 +42,6 @@ at 7 1001c 0 5=11000 6=1020304 11=5d 21=12000
 "
     )?;
     recording(alloc, recipe.as_str())
-}
-
-const STORES_REPORT: &str = "0 \
-1,all,4,0,0x00010010,Done,0x00000000
-end,exited,7,,0x0001001c,,0x00000000
-regs,x,,,,,x2=0x7fffffe0 x5=0x00011000 x6=0x01020304 x17=0x0000005d
-";
-
-const STORES_LIE: &str =
-    "9 sledge: checkpoint 5 differs at count 5, part 35, at 0x00011005: recorded 0x00000005, replayed 0x00000004\n";
-
-#[test]
-fn one_byte_of_a_checkpoint(rt: HostRuntime) -> Result<(), Fail> {
-    let alloc = rt.alloc();
-    for (byte, text) in [(4, STORES_REPORT), (5, STORES_LIE)] {
-        let bytes = stores_once(alloc, byte)?;
-        for epochs in [1, 2, 5, 7] {
-            for workers in [1, 4] {
-                let words = format!(in alloc;
-                    "trace a.rec at 10010 --epochs {epochs} --workers {workers}"
-                )?;
-                assert!(rt; tells(&rt, alloc, &bytes, words.as_str(), text)?, "{words}");
-            }
-        }
-    }
-    Ok(())
 }
 
 /// A program that counts in 64 turns: the instruction that loads how often it adds 3 to a0 in each
@@ -244,15 +218,29 @@ impl Gate for Meeting {
     }
 }
 
+/// Loads 5 into a0 and exits, with a checkpoint before the last instruction.
+const EXITS_IN_TWO: &str = "\
+words 0 10000 c 00500513 05d00893 73 0 0 1
+at 2 10008 0 a=5 11=5d
+words 0 5
+at 3 1000c 0 a=5 11=5d
+";
+
+const EXITS_REPORT: &str = "0 \
+1,all,2,0,0x00010008,Done,0x00000005
+end,exited,3,,0x0001000c,,0x00000005
+regs,x,,,,,x2=0x7fffffe0 x10=0x00000005 x17=0x0000005d
+";
+
 /// Two workers are in their epochs at the same time.
 #[test]
 fn two_epochs_meet(rt: HostRuntime) -> Result<(), Fail> {
     let alloc = rt.alloc();
-    let bytes = recording(alloc, super::traces::EXITS_IN_TWO)?;
+    let bytes = recording(alloc, EXITS_IN_TWO)?;
     let gate = Meeting::new();
     let words = "trace a.rec at 10008 --epochs 2 --workers 2";
     let text = told(&rt, alloc, &bytes, words, &gate)?;
-    assert_eq!(rt; text.as_slice(), super::traces::EXITS_REPORT.as_bytes());
+    assert_eq!(rt; text.as_slice(), EXITS_REPORT.as_bytes());
     assert_eq!(rt; gate.late.load(Ordering::SeqCst), 0);
     assert_eq!(rt; gate.claims.load(Ordering::SeqCst), 2);
     assert_eq!(rt; gate.workers.load(Ordering::SeqCst), 3);
