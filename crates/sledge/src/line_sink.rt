@@ -1,11 +1,11 @@
 //! An output whose lines go out whole.
 
 ghost use Rattle.std.specs.Prelude.{◌≡◌, ◌<◌, ◌≤◌, ◌+◌, ◌-◌, ◌++◌, [], length, take, drop, min, OnErr, OnOk};
-ghost use Rattle.sl_base.specs.Faults.{Rose};
-ghost use Rattle.sl_base.specs.Written.{Adds};
+ghost use Rattle.outside.specs.Faults.{Rose};
+ghost use Rattle.outside.specs.Written.{Adds};
 ghost use Rattle.sledge.specs.Gathering.{with_pending};
 
-use sl_base::{Sink, SinkFailed};
+use outside::{Sink, SinkFailed};
 
 /// How many bytes are gathered at most: as many as a pipe takes in one piece.
 const ROOM: usize = 4096;

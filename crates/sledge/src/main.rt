@@ -4,7 +4,7 @@
 mod line_sink;
 
 use line_sink::LineSink;
-use sl_base::{FileStore, NoGate, StdSink, StdWorld};
+use outside::{FileStore, NoGate, StdSink, StdWorld};
 use sledge_top::{Refusal, Status, sledge, write_fault};
 use std::env;
 use std::io::ErrorKind;

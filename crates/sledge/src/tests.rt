@@ -1,7 +1,7 @@
 //! Lines that go out whole.
 
 use crate::line_sink::LineSink;
-use sl_base::{MemorySink, Sink, write_all};
+use outside::{MemorySink, Sink, write_all};
 use std::test::Fail;
 
 /// A line of three pieces is one write: the second would fail.

@@ -1,5 +1,5 @@
 use Rattle.std.proofs.Common.{◌≤◌, [], take}
-use Rattle.sl_base.specs.Written.{Adds}
+use Rattle.outside.specs.Written.{Adds}
 use Rattle.sledge.specs.Gathering.{with_pending}
 use Rattle.sledge.proofs.line_sink.LineSink.send.Given as goal
 
