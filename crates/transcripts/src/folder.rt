@@ -1,6 +1,6 @@
 //! The files of a folder, and those that are put while a guide runs.
 
-use sl_base::{FileStore, GetFault, MemoryStore, PutFault, Store};
+use outside::{FileStore, GetFault, MemoryStore, PutFault, Store};
 use std::alloc::Global;
 use std::rt::Files;
 

@@ -1,9 +1,10 @@
 //! The outside of a program that is recorded by a command of a guide.
 
 ghost use Rattle.std.specs.Prelude.{◌≡◌, ◌≤◌, ◌⊎◌, length, drop};
-ghost use Rattle.sl_base.specs.World.{failure};
+ghost use Rattle.outside.specs.World.{failure};
 
-use sl_base::{Call, FAILURE, READ, WRITE, World};
+use outside::{FAILURE, World};
+use sl_base::{Call, READ, WRITE};
 use std::alloc::Global;
 
 /// An outside whose input are these bytes, and that keeps what is written to descriptors 1 and 2.
@@ -58,9 +59,9 @@ impl Outside {
 }
 
 impl World for Outside {
-    ghost use Rattle.std.specs.Prelude.{None};
+    ghost use Rattle.std.specs.Prelude.{⊤};
 
-    ghost replies = { λ _. None };
+    ghost hears = { λ _ _ _. ⊤ };
 
     fn answer(&mut self, call: &Call, give: &[u8], take: &mut [u8]) -> u32 {
         match (call.number, call.args[0]) {
