@@ -17,7 +17,7 @@ use Rattle.epoch_run.specs.Epochs.{epoch_size, epoch_break_from, epoch_break, ep
 use Rattle.sl_model.specs.State.{Fits, IsOpening}
 use Rattle.checkpoints.specs.RecordedRun.{opened_of}
 use Rattle.epoch_run.specs.declared.plan.Plan.{Plan}
-use Rattle.epoch_run.specs.declared.plan.Worker.{Worker}
+use Rattle.epoch_run.specs.declared.worker.Worker.{Worker}
 use Rattle.epoch_run.specs.Plans.{state_in}
 use Rattle.epoch_run.specs.Segments.{IsUnderWay, BrokeOff, StopsAt}
 use Rattle.rec_format.proofs.RecordedStates.{count-recorded, Fits-recorded}

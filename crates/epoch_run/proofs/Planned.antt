@@ -1,12 +1,14 @@
 -- The epochs of a cutting, as a plan has them.
-use Rattle.std.specs.Prelude.{slice_index}
+use Rattle.std.specs.Prelude.{slice_index, IfOk}
 use Rattle.std.specs.List.{slice_get}
-use Rattle.std.proofs.Common.{◌≡◌, ℕ, zero, suc, ◌+◌, ◌-◌, ◌<◌, ◌≤◌, ⊎_elim, List, length, Some, ap, ◌∙◌, zero-add, arith}
+use Rattle.std.proofs.Common.{◌≡◌, ℕ, zero, suc, ◌+◌, ◌-◌, ◌<◌, ◌≤◌, ⊎_elim, List, length, Some, Result, Ok, Err, sym, ap, ◌∙◌, zero-add, arith}
 use Rattle.std.proofs.lemmas.Bool.{cases_eq}
 use Rattle.std.proofs.lemmas.List.FromFn.{length-map-range_with_len, get_or-map-range_with_len}
 use Rattle.std.proofs.lemmas.Option.{slice_get-get_or}
 use Rattle.rec_format.specs.Rules.{IsRecordingValue}
 use Rattle.rec_format.specs.declared.recording.Recording.{Recording}
+use Rattle.sl_base.specs.declared.refused.Memory.{Memory}
+use Rattle.epoch_core.specs.declared.post.Post.{Post}
 use Rattle.epoch_core.specs.declared.post.PostValue.{PostValue}
 use Rattle.epoch_core.specs.declared.post.PostValue.TheVariants as post
 use Rattle.epoch_cut.specs.Places.{IsCutting}
@@ -65,3 +67,8 @@ slice_get-values plan k within =
     let none = post.Skipped 0 in
     slice_get-get_or (values_of plan) k none (omega (arith, length-values plan))
     ∙ ap Some (get_or-map-range_with_len values 0 (epochs_of plan.cutting) k k none within (zero-add k))
+
+-- the post of an epoch is the value of that place
+pub post_is_value : (plan : Plan) (k : ℕ) (r : Result Post Memory) → k < epochs_of plan.cutting → IfOk r (λ post. post.value ≡ posted plan.kinds (value_in plan k)) → IfOk r (λ post. slice_get (values_of plan) k ≡ Some post.value)
+post_is_value plan k (Ok post) within is = slice_get-values plan k within ∙ ap Some (sym is)
+post_is_value plan k (Err memory) within is = tt

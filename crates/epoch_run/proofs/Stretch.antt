@@ -18,7 +18,7 @@ use Rattle.replay.specs.Advance.{StoppedAt}
 use Rattle.replay.specs.Breaks.{at_count, listed_break, listed_or, break_after}
 use Rattle.epoch_run.specs.Records.{Tracers}
 use Rattle.epoch_run.specs.Epochs.{between, epoch_break_from, epoch_records_from}
-use Rattle.epoch_run.specs.declared.plan.Worker.{Worker}
+use Rattle.epoch_run.specs.declared.worker.Worker.{Worker}
 use Rattle.epoch_run.specs.Plans.{state_in}
 use Rattle.epoch_run.specs.Segments.{IsUnderWay, stopped_at, BrokeOff}
 use Rattle.epoch_run.proofs.Arrived.{run-suc, records-suc}

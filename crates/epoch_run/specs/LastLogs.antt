@@ -13,7 +13,7 @@ use Rattle.checkpoints.specs.RecordedRun.{opened_of}
 use Rattle.epoch_core.specs.declared.post.PostValue.{PostValue}
 use Rattle.epoch_core.specs.declared.post.PostValue.TheVariants.{Ran, Broke, Skipped}
 use Rattle.epoch_run.specs.declared.plan.Plan.{Plan}
-use Rattle.epoch_run.specs.declared.plan.Worker.{Worker}
+use Rattle.epoch_run.specs.declared.worker.Worker.{Worker}
 use Rattle.epoch_run.specs.Plans.{state_in}
 
 -- how many stores the tracer of a tracepoint does on a copy of a state

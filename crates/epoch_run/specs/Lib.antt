@@ -3,6 +3,8 @@ pub mod Epochs
 pub mod EpochLaws
 pub mod Segments
 pub mod Plans
+pub mod Images
+pub mod Symbols
 pub mod Loaded
 pub mod Watched
 pub mod Compiled

@@ -72,6 +72,10 @@ abbrev state_code : Coded State
 state_code =
     code_by ((List ℕ × Pages) × Rest) (coded× memory_code rest_code) parts_of state_with (λ _. refl)
 
+-- two states are equal in one way at most
+pub state-set : (s t : State) → IsProp (s ≡ t)
+state-set s t = Coded-set state_code s t
+
 -- ---- the opening state of a plan
 
 -- checkpoints open with the state that an image is loaded to, with the recorded arguments
@@ -80,4 +84,4 @@ IsLoaded image checkpoints = opened_of checkpoints ≡ opening image checkpoints
 
 pub IsLoaded-prop :
     (image : Image) (checkpoints : Checkpoints) → IsProp (IsLoaded image checkpoints)
-IsLoaded-prop image checkpoints = Coded-set state_code _ _
+IsLoaded-prop image checkpoints = state-set _ _

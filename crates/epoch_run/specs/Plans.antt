@@ -17,7 +17,7 @@ use Rattle.epoch_core.specs.declared.post.PostValue.{PostValue}
 use Rattle.epoch_core.specs.declared.post.PostValue.TheVariants.{Ran, Broke}
 use Rattle.epoch_core.specs.Posts.{IsOwn, HasParts}
 use Rattle.epoch_run.specs.declared.plan.Plan.{Plan}
-use Rattle.epoch_run.specs.declared.plan.Worker.{Worker}
+use Rattle.epoch_run.specs.declared.worker.Worker.{Worker}
 use Rattle.epoch_run.specs.Records.{Tracers}
 use Rattle.epoch_run.specs.Epochs.{epoch_size}
 use Rattle.epoch_run.specs.EpochLaws.{epochs_of, value_at}

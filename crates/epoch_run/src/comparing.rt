@@ -10,7 +10,8 @@ ghost use Rattle.checkpoints.specs.Marked.{HoldsRecorded};
 ghost use Rattle.epoch_run.specs.Epochs.{early_exit, closing_break};
 ghost use Rattle.epoch_run.specs.Plans.{state_in};
 
-use crate::plan::{Plan, Worker};
+use crate::plan::Plan;
+use crate::worker::Worker;
 use call_log::{Break, BreakKind};
 use rec_format::Recording;
 use replay::end_break;

@@ -6,10 +6,12 @@ ghost use Rattle.call_log.specs.declared.breaks.Break.{Break as FirstBreak};
 ghost use Rattle.tracer_lang.specs.declared.record.Record.{Record as Left};
 ghost use Rattle.epoch_run.specs.EpochLaws.{epochs_of};
 ghost use Rattle.epoch_run.specs.LastLogs.{LogAfter};
-ghost use Rattle.epoch_run.specs.Plans.{posted, value_in, size_in, CanTrace};
+ghost use Rattle.epoch_run.specs.Plans.{posted, value_in, size_in};
+ghost use Rattle.epoch_run.specs.Standings.{StandsIn, StandsIn-prop};
 
-use crate::plan::{Plan, Worker};
+use crate::plan::Plan;
 use crate::running::run_between;
+use crate::worker::Worker;
 use analysers::{Kind, parts_of};
 use call_log::Break;
 use epoch_core::{Post, PostValue, Runs};
@@ -39,8 +41,8 @@ pub(crate) fn posted(
 }
 
 /// Runs epoch `k` of a plan from the recorded state of its first checkpoint, whatever the worker
-/// ran before, and gives its post. It breaks exactly where the epoch does, and is never `Skipped`.
-/// The steps that are counted are instructions of the program. After records were left, the last
+/// ran before, and gives its post. Where it ran the epoch before last, it goes on from there, and
+/// no state is made anew. It breaks exactly where the epoch does, and is never `Skipped`. The steps that are counted are instructions of the program. After records were left, the last
 /// log of the worker's bank is that of the last of them.
 ///
 /// # Errors
@@ -54,12 +56,12 @@ pub fn run_epoch<L: Ledger>(
     steps: &mut Steps<L>,
 ) -> Result<Post, Memory>
     requires within { k < epochs_of plan.now.cutting }
-    requires bank { CanTrace plan.now worker.old }
+    requires stands { StandsIn plan.now worker.old }
     ensures epoch { IfOk result (λ post. post.epoch ≡ k) }
     ensures value { IfOk result (λ post.
         post.value ≡ posted plan.now.kinds (value_in plan.now k)) }
     ensures steps { steps.new ≤ steps.old + size_in plan.now k }
-    ensures bank { CanTrace plan.now worker.new }
+    ensures stands { StandsIn plan.now worker.new }
     ensures last { IfOk result (λ post.
         LogAfter plan.now k post.value worker.new.bank.last_log_len) }
 {
@@ -78,7 +80,7 @@ pub struct PlanRuns<'a, L: Ledger> {
     pub worker: &'a mut Worker,
     /// Instructions of the program.
     pub steps: &'a mut Steps<L>,
-    ghost bank: { CanTrace plan.now worker.now },
+    ghost stands: { StandsIn plan.now worker.now } by { StandsIn-prop plan.now worker.now },
 }
 
 impl<'a, L: Ledger> Runs for PlanRuns<'a, L> {

@@ -12,7 +12,8 @@ ghost use Rattle.epoch_run.specs.Firings.{RunsAtEnd};
 ghost use Rattle.epoch_run.specs.LastLogs.{stores_of, FiredIn};
 ghost use Rattle.epoch_run.specs.Plans.{tracers_of, state_in, CanTrace, OnlyTraced};
 
-use crate::plan::{Plan, Worker};
+use crate::plan::Plan;
+use crate::worker::Worker;
 use call_log::End;
 use sl_base::{Blank, Brand, Ledger, Memory, Steps};
 use sl_model::RunState;
@@ -39,7 +40,13 @@ fn run_tracer<L: Ledger>(plan: &Plan, worker: &mut Worker, point: u32, blank: Bl
 {
     standing_code_is_sound();
     let mut steps = Steps::<L>::new(blank);
-    let Worker { m, f, bank, room } = worker;
+    let Worker {
+        m,
+        f,
+        bank,
+        room,
+        ..
+    } = worker;
     run_in_place(m, f, bank, plan.tracers.code(), point, room, &mut steps);
 }
 

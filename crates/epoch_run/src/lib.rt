@@ -11,7 +11,7 @@ mod places;
 mod plan;
 mod running;
 mod segment;
-mod standing;
+mod worker;
 
 pub use compiled::CompiledScript;
 pub use epoch::{PlanRuns, run_epoch};
@@ -20,6 +20,6 @@ pub use laws::{
     records_are_those_of_the_run, runs_end_as_recorded, values_are_the_run,
 };
 pub use one_point::at_script;
-pub use plan::{Plan, Worker};
+pub use plan::Plan;
 pub use running::{run_between, run_on};
-pub use standing::{Standing, run_next};
+pub use worker::Worker;

@@ -26,7 +26,12 @@ use Rattle.report.specs.declared.status.Refusal.{Refusal}
 use Rattle.report.specs.declared.status.Refusal.TheVariants as refusal
 use Rattle.report.specs.Report.{checked_line}
 use Rattle.sledge_top.specs.Done.{Done, only_text, with_put}
-use Rattle.sledge_top.specs.Answer.{◌>>=◌, RECORDING_LIMIT, IMAGE_LIMIT, check, replay, recut, within, file_of, recorded, recorded_in, image_of, image_or_refusal, refused_by, replayed, replayed_alone, source_of, recorded_as, put_recording, unless_broken, recut_from, RecordsProgram, RecordsImage, RecordsFile}
+use Rattle.sledge_top.specs.Files.{◌>>=◌, IMAGE_LIMIT, within, file_of, image_or_refusal, refused_by}
+use Rattle.sledge_top.specs.Recordings.{RECORDING_LIMIT, recorded, recorded_in, image_of, recorded_as, put_recording}
+use Rattle.sledge_top.specs.Replays.{replayed, replayed_alone, unless_broken}
+use Rattle.sledge_top.specs.Traces.{check, replay}
+use Rattle.sledge_top.specs.Recutting.{recut, recut_from}
+use Rattle.sledge_top.specs.Recording.{source_of, RecordsProgram, RecordsImage, RecordsFile}
 use Rattle.sledge_top.specs.Accepted.{IsAccepted, RecordingsAreAccepted}
 
 differ : (done : Done) (why : Refusal) → Ok done ≡ Err why → ⊥

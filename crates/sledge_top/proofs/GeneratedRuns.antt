@@ -18,6 +18,7 @@ use Rattle.replay.specs.Breaks.{first_break}
 use Rattle.analysers.specs.declared.kind.Kind.{Kind}
 use Rattle.analysers.specs.Pieces.{rows_of}
 use Rattle.tracer_lang.specs.Firing.{records_at}
+use Rattle.epoch_run.specs.Images.{image_in}
 use Rattle.epoch_run.specs.Records.{records}
 use Rattle.report.specs.Report.{analyses_lines}
 use Rattle.rv_asm.specs.Assembly.{assembly}
@@ -33,7 +34,12 @@ use Rattle.sledge_top.specs.declared.done.Done.{Done as GivenDone}
 use Rattle.sledge_top.specs.declared.failure.Failure.{Failure}
 use Rattle.sledge_top.specs.declared.failure.Failure.TheVariants as failure
 use Rattle.sledge_top.specs.Kinds.{kinds_of}
-use Rattle.sledge_top.specs.Answer.{◌>>=◌, refused_by, image_in, image_of, script_of, report_of, replayed, traced, traced_with, traced_recording, GENERATED_SCRIPT, generated_words, GeneratesTo, ComesTo}
+use Rattle.sledge_top.specs.Files.{◌>>=◌, refused_by}
+use Rattle.sledge_top.specs.Recordings.{image_of}
+use Rattle.sledge_top.specs.Replays.{report_of, replayed, traced}
+use Rattle.sledge_top.specs.Traces.{script_of, traced_with}
+use Rattle.sledge_top.specs.Generating.{traced_recording, GENERATED_SCRIPT, generated_words, GeneratesTo}
+use Rattle.sledge_top.specs.Answer.{ComesTo}
 use Rattle.sledge_top.specs.Done.{Done, only_text}
 use Rattle.sledge_top.specs.Views.{done_view, ComesSo}
 

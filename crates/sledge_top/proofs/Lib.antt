@@ -12,3 +12,4 @@ mod GeneratedRuns
 mod KindCodes
 mod AnalysisWords
 mod Accepting
+mod OverSymbols

@@ -16,6 +16,7 @@ use Rattle.tracer_read.specs.Scripts.{script_of_text}
 use Rattle.replay.specs.Opening.{opening}
 use Rattle.analysers.specs.declared.kind.Kind.{Kind}
 use Rattle.epoch_run.specs.AtScript.{at_tree}
+use Rattle.epoch_run.specs.Images.{image_in}
 use Rattle.analysers.specs.Pieces.{rows_of}
 use Rattle.report.specs.Report.{analyses_lines}
 use Rattle.report.specs.declared.status.Refusal.{Refusal}
@@ -26,7 +27,11 @@ use Rattle.cli_words.specs.Orders.{Order, TraceOptions, Trace, TraceAt, Replay, 
 use Rattle.sledge_top.specs.Done.{Done, only_text, text_of}
 use Rattle.sledge_top.specs.Kinds.{kind_named, before, kinds_from, kinds_of}
 use Rattle.sledge_top.specs.Endings.{Ends, Says, IsCutOff, Does, Answers}
-use Rattle.sledge_top.specs.Answer.{◌>>=◌, refused_by, RECORDING_LIMIT, SCRIPT_LIMIT, within, file_of, image_in, image_of, recording_of, recorded, recorded_in, script_of, script_in, replayed, traced, traced_with, trace_by, trace_at, broken_by, ordered, ComesTo}
+use Rattle.sledge_top.specs.Files.{◌>>=◌, refused_by, within, file_of}
+use Rattle.sledge_top.specs.Recordings.{RECORDING_LIMIT, image_of, recording_of, recorded, recorded_in}
+use Rattle.sledge_top.specs.Replays.{replayed, traced, broken_by}
+use Rattle.sledge_top.specs.Traces.{SCRIPT_LIMIT, script_of, script_in, traced_with, trace_by, trace_at}
+use Rattle.sledge_top.specs.Answer.{ordered, ComesTo}
 use Rattle.sledge_top.specs.Headline.{Traced, IsTraced, is_trace, opened_in, break_in, records_in, report_in, IsBreakOf, IsOneRun, TracesAreOneRun, IsComplete, TracesComplete}
 use Rattle.sledge_top.proofs.Outcomes.{does_due}
 

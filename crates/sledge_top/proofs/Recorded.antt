@@ -9,7 +9,7 @@ use Rattle.cli_words.specs.Orders.{RecordOptions}
 use Rattle.report.specs.declared.status.Refusal.{Refusal}
 use Rattle.sledge_top.specs.declared.done.Done.{Done as GivenDone}
 use Rattle.sledge_top.specs.Done.{Done}
-use Rattle.sledge_top.specs.Answer.{RecordsProgram, RecordsImage, source_of}
+use Rattle.sledge_top.specs.Recording.{RecordsProgram, RecordsImage, source_of}
 use Rattle.sledge_top.specs.Views.{done_view, MaySo}
 
 -- what was returned is what is due, which is of this kind

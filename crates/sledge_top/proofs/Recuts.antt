@@ -10,7 +10,8 @@ use Rattle.replay.specs.Opening.{opening}
 use Rattle.replay.specs.Breaks.{first_break}
 use Rattle.call_recorder.specs.Recut.{recut_of}
 use Rattle.report.specs.declared.status.Refusal.{Refusal}
-use Rattle.sledge_top.specs.Answer.{unless_broken, recut_by}
+use Rattle.sledge_top.specs.Replays.{unless_broken}
+use Rattle.sledge_top.specs.Recutting.{recut_by}
 
 -- a break refuses whatever the recording is used for
 fails_alike : {A B : Type 0} (why : Refused Refusal) (x : A) (y : B) (break : Option Break) → Fails why (unless_broken x break) → Fails why (unless_broken y break)

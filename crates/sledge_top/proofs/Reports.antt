@@ -22,7 +22,8 @@ use Rattle.report.specs.declared.status.Refusal.{Refusal}
 use Rattle.report.specs.RunEnd.{recorded_end}
 use Rattle.report.specs.Report.{analyses_lines, report}
 use Rattle.sledge_top.specs.Runs.{run_value, run_of}
-use Rattle.sledge_top.specs.Answer.{◌>>=◌, refused_by, replayed, traced, replayed_alone, last_state, run_end, broken_by, unless_broken}
+use Rattle.sledge_top.specs.Files.{◌>>=◌, refused_by}
+use Rattle.sledge_top.specs.Replays.{replayed, traced, replayed_alone, last_state, run_end, broken_by, unless_broken}
 
 -- what a run comes to, or how the command is refused
 abbrev pub merged_or_refusal : Recording → Tracers → List Kind → State → Result Merged Refusal

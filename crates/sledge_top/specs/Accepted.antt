@@ -8,7 +8,10 @@ use Rattle.replay.specs.Opening.{opening}
 use Rattle.replay.specs.Breaks.{first_break}
 use Rattle.cli_words.specs.Orders.{RecordOptions}
 use Rattle.sledge_top.specs.Done.{Done, with_put}
-use Rattle.sledge_top.specs.Answer.{recorded_in, check, replay, recut, RecordsTo}
+use Rattle.sledge_top.specs.Recordings.{recorded_in}
+use Rattle.sledge_top.specs.Traces.{check, replay}
+use Rattle.sledge_top.specs.Recutting.{recut}
+use Rattle.sledge_top.specs.Recording.{RecordsTo}
 
 -- The file of a name is a recording that replays without a break; and to cut it anew by a distance,
 -- under its own name, does just this.

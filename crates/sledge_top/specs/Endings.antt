@@ -52,6 +52,12 @@ pub record Does (status : Status) (files : Files) (new : Option Files)
   pub text : Says status said says (text_of defined)
   pub leaves : Leaves status files new defined
 
+-- the same of a command that needs no file
+pub record EndsAlone (status : Status) (said says : Option (List ℕ))
+    (defined : Result Done Refusal) : Type 0 where
+  pub ends : Ends status defined
+  pub text : Says status said says (text_of defined)
+
 -- want of memory, and a fault of the store
 abbrev pub IsCutOff : Status → Type 0
 IsCutOff status.StoreFault = ⊤
@@ -72,6 +78,13 @@ abbrev pub Answers :
 Answers Is status files new said says =
     ((defined : Result Done Refusal) × Is defined × Does status files new said says defined)
     ⊎ GivesUp status files new said says
+
+-- the same of a command that needs no file
+abbrev pub AnswersAlone :
+    (Result Done Refusal → Type 0) → Status → Option (List ℕ) → Option (List ℕ) → Type 0
+AnswersAlone Is status said says =
+    ((defined : Result Done Refusal) × Is defined × EndsAlone status said says defined)
+    ⊎ (IsCutOff status × (says ≡ said))
 
 -- a refusal for another reason than the words
 abbrev pub IsLater : Refusal → Type 0

@@ -23,7 +23,10 @@ use Rattle.report.specs.declared.status.Status.TheVariants as ending
 use Rattle.cli_words.specs.Orders.{Order, Trace, TraceAt, order_of}
 use Rattle.sledge_top.specs.Kinds.{kinds_of}
 use Rattle.sledge_top.specs.Endings.{Answers, IsCutOff}
-use Rattle.sledge_top.specs.Answer.{recorded_in, script_in, report_of, broken_by, ComesTo}
+use Rattle.sledge_top.specs.Recordings.{recorded_in}
+use Rattle.sledge_top.specs.Replays.{report_of, broken_by}
+use Rattle.sledge_top.specs.Traces.{script_in}
+use Rattle.sledge_top.specs.Answer.{ComesTo}
 
 -- what is traced: a recording and its image, the tracers of a script, and analyses of what they
 -- leave

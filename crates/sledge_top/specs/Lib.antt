@@ -2,6 +2,14 @@ pub mod Done
 pub mod Kinds
 pub mod Runs
 pub mod Show
+pub mod Files
+pub mod Recordings
+pub mod Replays
+pub mod Traces
+pub mod Assembling
+pub mod Recutting
+pub mod Recording
+pub mod Generating
 pub mod Answer
 pub mod Accepted
 pub mod Headline

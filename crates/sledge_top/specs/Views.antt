@@ -11,7 +11,7 @@ use Rattle.sledge_top.specs.declared.done.Done.{Done as GivenDone}
 use Rattle.sledge_top.specs.declared.failure.Failure.{Failure}
 use Rattle.sledge_top.specs.declared.failure.Failure.TheVariants as failure
 use Rattle.sledge_top.specs.Done.{Put, Done}
-use Rattle.sledge_top.specs.Endings.{IsLater, Does, GivesUp}
+use Rattle.sledge_top.specs.Endings.{IsLater, IsCutOff, Does, EndsAlone, GivesUp}
 
 abbrev pub put_view : GivenPut → Put
 put_view put = record { name = put.name.now; bytes = put.bytes.items }
@@ -44,6 +44,15 @@ Finishes (Err (failure.Refused why)) status files new said says =
     Does status files new said says (Err why)
 Finishes (Err failure.StoreFault) status files new said says = GivesUp status files new said says
 Finishes (Err failure.Memory) status files new said says = GivesUp status files new said says
+
+-- the same of a command that needs no file
+abbrev pub FinishesAlone :
+    Result GivenDone Failure → Status → Option (List ℕ) → Option (List ℕ) → Type 0
+FinishesAlone (Ok done) status said says = EndsAlone status said says (Ok (done_view done))
+FinishesAlone (Err (failure.Refused why)) status said says =
+    EndsAlone status said says (Err why)
+FinishesAlone (Err failure.StoreFault) status said says = IsCutOff status × (says ≡ said)
+FinishesAlone (Err failure.Memory) status said says = IsCutOff status × (says ≡ said)
 
 abbrev pub MaySo : (Result Done Refusal → Type 0) → Result GivenDone (Refused Refusal) → Type 0
 MaySo Is (Ok done) = Is (Ok (done_view done))

@@ -4,7 +4,7 @@ ghost use Rattle.std.specs.Prelude.{◌≡◌, ◌≤◌, IfOk, IfErr, IfSome, I
 ghost use Rattle.outside.specs.Faults.{Rose};
 ghost use Rattle.sl_base.specs.Refusals.{Gives};
 ghost use Rattle.elf_image.specs.Written.{IsWritable};
-ghost use Rattle.sledge_top.specs.Answer.{assembled_line, image_of_source, asm};
+ghost use Rattle.sledge_top.specs.Assembling.{assembled_line, image_of_source, asm};
 ghost use Rattle.sledge_top.specs.Endings.{IsLaterFault};
 ghost use Rattle.sledge_top.specs.Views.{done_view, Comes, IsLaterFailure};
 

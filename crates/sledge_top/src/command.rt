@@ -7,8 +7,9 @@ ghost use Rattle.outside.specs.Written.{Adds, AddsPrefix};
 ghost use Rattle.report.specs.Status.{fault_line};
 ghost use Rattle.cli_words.specs.Orders.{order_of, Fits};
 ghost use Rattle.cli_words.specs.Views.{texts, order_view};
+ghost use Rattle.sledge_top.specs.Generating.{GeneratesTo, IfGen};
 ghost use Rattle.sledge_top.specs.Answer.{asks_world, ComesTo};
-ghost use Rattle.sledge_top.specs.Endings.{IsSilent, Answers};
+ghost use Rattle.sledge_top.specs.Endings.{IsSilent, Answers, AnswersAlone};
 ghost use Rattle.sledge_top.specs.Views.{ComesSo, IsLaterFailure};
 
 use crate::assemble::asm;
@@ -40,6 +41,8 @@ fn done_by<'a, R: Threads + Sync, S: Store, W: World, G: Gate>(
     ensures answer { IfSome (S.told store.old) (λ files.
         ComesSo (ComesTo files (Some (order_view order.now))
         (HearsAll W.hears world.old world.new)) result) }
+    ensures generated { IfGen (Some (order_view order.now)) (λ seed size.
+        ComesSo (GeneratesTo seed size) result) }
     ensures later { IfErr result IsLaterFailure }
     ensures failed { IsErrOf result Failure.StoreFault
         → Rose (S.faults store.old) (S.faults store.new) }
@@ -98,6 +101,8 @@ fn named<'a, R: Threads + Sync, S: Store, W: World, G: Gate>(
     ensures answer { IfSome (S.told store.old) (λ files.
         ComesSo (ComesTo files (order_of (texts words.now))
         (HearsAll W.hears world.old world.new)) result) }
+    ensures generated { IfGen (order_of (texts words.now)) (λ seed size.
+        ComesSo (GeneratesTo seed size) result) }
     ensures failed { IsErrOf result Failure.StoreFault
         → Rose (S.faults store.old) (S.faults store.new) }
     ensures faults { S.faults store.old ≤ S.faults store.new }
@@ -129,6 +134,8 @@ fn run<R: Threads + Sync, S: Store, W: World, O: Sink, G: Gate>(
         Answers (ComesTo files (order_of (texts words.now))
         (HearsAll W.hears world.old world.new))
         result files (S.told store.new) (O.written out.old) (O.written out.new)) }
+    ensures generated { IfGen (order_of (texts words.now)) (λ seed size.
+        AnswersAlone (GeneratesTo seed size) result (O.written out.old) (O.written out.new)) }
     ensures store_fault { result ≡ Status.StoreFault
         → Rose (S.faults store.old) (S.faults store.new) }
     ensures sink_fault { result ≡ Status.SinkFault → Rose (O.faults out.old) (O.faults out.new) }
@@ -169,6 +176,11 @@ pub fn sledge<R: Threads + Sync, S: Store, W: World, O: Sink, E: Sink, G: Gate>(
         Answers (ComesTo files (order_of (texts words.now))
         (HearsAll W.hears world.old world.new))
         result files (S.told store.new) (O.written out.old) (O.written out.new)) }
+
+    // The command that generates a program needs no file: it ends so and says so whatever the store
+    // tells.
+    ensures generated { IfGen (order_of (texts words.now)) (λ seed size.
+        AnswersAlone (GeneratesTo seed size) result (O.written out.old) (O.written out.new)) }
 
     // A fault of the store or of the first output comes only where its count of faults rose.
     ensures store_fault { result ≡ Status.StoreFault

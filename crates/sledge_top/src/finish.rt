@@ -3,7 +3,7 @@
 ghost use Rattle.std.specs.Prelude.{◌≡◌, ◌≤◌, ◌⊎◌, IfSome, IsErrOf, Ok};
 ghost use Rattle.outside.specs.Faults.{Rose};
 ghost use Rattle.sledge_top.specs.Endings.{Ends, Says, IsSilent, Leaves, Does};
-ghost use Rattle.sledge_top.specs.Views.{done_view, Finishes};
+ghost use Rattle.sledge_top.specs.Views.{done_view, Finishes, FinishesAlone};
 
 use crate::done::Done;
 use crate::failure::Failure;
@@ -49,6 +49,8 @@ pub fn finish<S: Store, O: Sink>(
 ) -> Status
     ensures answer { IfSome (S.told store.old) (λ files. Finishes outcome.entry
         result files (S.told store.new) (O.written out.old) (O.written out.new)) }
+    ensures alone { FinishesAlone outcome.entry
+        result (O.written out.old) (O.written out.new) }
     ensures refused { result ≡ Status.Refused Refusal.Usage
         → IsErrOf outcome.entry (Failure.Refused Refusal.Usage) }
     ensures usage { IsErrOf outcome.entry (Failure.Refused Refusal.Usage)

@@ -5,7 +5,7 @@ ghost use Rattle.sl_base.specs.Refusals.{Gives};
 ghost use Rattle.rec_format.specs.Rules.{IsRecordingValue};
 ghost use Rattle.cli_words.specs.Orders.{FitsTrace};
 ghost use Rattle.cli_words.specs.Views.{words_view, trace_view};
-ghost use Rattle.sledge_top.specs.Answer.{generated_words, traced_recording, GeneratesTo};
+ghost use Rattle.sledge_top.specs.Generating.{generated_words, traced_recording, GeneratesTo};
 ghost use Rattle.sledge_top.specs.Endings.{IsLaterFault};
 ghost use Rattle.sledge_top.specs.Views.{done_view, ComesSo, IsLaterFailure};
 
@@ -46,7 +46,7 @@ fn trace_options<'a>(alloc: Global) -> Result<TraceOptions<'a>, Memory>
 }
 
 /// The report of a recording, as that of a generated program.
-#[tactic(auto, unfolding(crate::specs::Answer::traced_recording))]
+#[tactic(auto, unfolding(crate::specs::Generating::traced_recording))]
 fn traced_recording<'a, R: Threads + Sync, G: Gate>(
     rt: &R,
     alloc: Global,

@@ -10,7 +10,9 @@ ghost use Rattle.rec_format.specs.Rules.{IsRecordingValue};
 ghost use Rattle.call_recorder.specs.Recorded.{IsSource, IsRecorded};
 ghost use Rattle.cli_words.specs.Orders.{FitsRecord};
 ghost use Rattle.cli_words.specs.Views.{words_view, record_view};
-ghost use Rattle.sledge_top.specs.Answer.{spelled, put_recording, source_of, image_or_refusal, RecordsProgram, RecordsImage, RecordsTo};
+ghost use Rattle.sledge_top.specs.Files.{image_or_refusal};
+ghost use Rattle.sledge_top.specs.Recordings.{spelled, put_recording};
+ghost use Rattle.sledge_top.specs.Recording.{source_of, RecordsProgram, RecordsImage, RecordsTo};
 ghost use Rattle.sledge_top.specs.Endings.{IsLaterFault};
 ghost use Rattle.sledge_top.specs.Views.{done_view, ComesSo, MaySo, IsLaterFailure};
 

@@ -5,10 +5,12 @@ ghost use Rattle.outside.specs.Faults.{Rose};
 ghost use Rattle.sl_base.specs.Refusals.{Gives};
 ghost use Rattle.elf_image.specs.Loadable.{IsLoadable};
 ghost use Rattle.rec_format.specs.Rules.{IsRecordingValue};
+ghost use Rattle.epoch_run.specs.Images.{IsImageOf};
 ghost use Rattle.replay.specs.Breaks.{first_break};
 ghost use Rattle.replay.specs.Opening.{opening};
 ghost use Rattle.cli_words.specs.Orders.{IsDistance};
-ghost use Rattle.sledge_top.specs.Answer.{unless_broken, recut_by, recut_from, recut};
+ghost use Rattle.sledge_top.specs.Replays.{unless_broken};
+ghost use Rattle.sledge_top.specs.Recutting.{recut_by, recut_from, recut};
 ghost use Rattle.sledge_top.specs.Endings.{IsLaterFault};
 ghost use Rattle.sledge_top.specs.Views.{done_view, Comes, IsLaterFailure};
 
@@ -35,9 +37,11 @@ fn unbroken<R: Threads + Sync, G: Gate>(
     gate: &G,
 ) -> Result<(Recording, Image), Refused<Refusal>>
     requires rules { IsRecordingValue rec }
+    requires spelled { IsImageOf image rec }
     requires image { IsLoadable image }
     ensures value { Gives (λ both. both) result
         (unless_broken (rec, image) (first_break rec (opening image rec.args))) }
+    ensures rules { IfOk result (λ both. IsRecordingValue both.0) }
     ensures later { IfErr result IsLaterFault }
 {
     let plan = plan_of(alloc, rec, image, no_tracers(alloc), Seq::new(alloc), None)?;
@@ -60,6 +64,7 @@ fn recut_by<R: Threads + Sync, G: Gate>(
     gate: &G,
 ) -> Result<Recording, Refused<Refusal>>
     requires rules { IsRecordingValue rec }
+    requires spelled { IsImageOf image rec }
     requires image { IsLoadable image }
     requires every { IsDistance every }
     ensures value { Gives (λ recut. recut) result (recut_by every rec (opening image rec.args)) }
@@ -81,6 +86,7 @@ fn recut_from<'a, R: Threads + Sync, G: Gate>(
     gate: &G,
 ) -> Result<Done<'a>, Refused<Refusal>>
     requires rules { IsRecordingValue rec }
+    requires spelled { IsImageOf image rec }
     requires image { IsLoadable image }
     requires every { IsDistance every }
     ensures value { Gives done_view result

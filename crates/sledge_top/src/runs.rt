@@ -10,7 +10,7 @@ ghost use Rattle.sledge_top.specs.Runs.{run_in};
 use analysers::Merged;
 use call_log::Break;
 use epoch_core::Post;
-use epoch_run::{Plan, Standing, run_next, values_are_the_run};
+use epoch_run::{Plan, Worker, run_epoch, values_are_the_run};
 use epoch_worker::{Epochs, run_all};
 use ordered_merge::{merge, merged_means};
 use outside::Gate;
@@ -30,42 +30,42 @@ struct PlanEpochs<'a> {
 fn run_counted<L: Ledger>(
     alloc: Global,
     plan: &Plan,
-    standing: &mut Standing,
+    worker: &mut Worker,
     epoch: u32,
     blank: Blank,
 ) -> Result<Post, Memory>
     requires within { epoch < length (values_of plan.now) }
-    requires stands { StandsIn plan.now standing.old }
+    requires stands { StandsIn plan.now worker.old }
     requires name { blank.name ≡ L.name }
     requires parts { blank.parts ≡ L.parts }
     requires some_parts { 0 < blank.parts }
     ensures epoch { IfOk result (λ post. post.epoch ≡ epoch) }
     ensures value { IfOk result
         (λ post. slice_get (values_of plan.now) epoch ≡ Some post.value) }
-    ensures stands { StandsIn plan.now standing.new }
+    ensures stands { StandsIn plan.now worker.new }
 {
     let mut steps = Steps::<L>::new(blank);
-    run_next(alloc, plan, epoch, standing, &mut steps)
+    run_epoch(alloc, plan, epoch, worker, &mut steps)
 }
 
 impl<'a> Epochs for PlanEpochs<'a> {
-    type Worker = Standing;
+    type Worker = Worker;
 
     ghost use Rattle.epoch_run.specs.Plans.{values_of, values_are_own};
     ghost use Rattle.epoch_run.specs.Standings.{StandsIn};
 
     ghost values = { λ epochs. values_of epochs.plan.now };
 
-    ghost stands = { λ epochs standing. StandsIn epochs.plan.now standing };
+    ghost stands = { λ epochs worker. StandsIn epochs.plan.now worker };
 
     ghost not_skipped = { λ epochs. values_are_own epochs.plan.now };
 
-    fn start(&self, alloc: Global) -> Result<Standing, Memory> {
-        Standing::new(alloc, self.plan)
+    fn start(&self, alloc: Global) -> Result<Worker, Memory> {
+        Worker::new(alloc, self.plan)
     }
 
-    fn run(&self, alloc: Global, standing: &mut Standing, epoch: u32) -> Result<Post, Memory> {
-        run_counted::<Brand>(alloc, self.plan, standing, epoch, Blank::new(1))
+    fn run(&self, alloc: Global, worker: &mut Worker, epoch: u32) -> Result<Post, Memory> {
+        run_counted::<Brand>(alloc, self.plan, worker, epoch, Blank::new(1))
     }
 }
 

@@ -5,8 +5,8 @@ ghost use Rattle.outside.specs.Faults.{Rose};
 ghost use Rattle.sl_base.specs.Refusals.{Gives};
 ghost use Rattle.elf_image.specs.Loadable.{IsLoadable};
 ghost use Rattle.replay.specs.Opening.{opening};
-ghost use Rattle.sledge_top.specs.Show.{word_at, shown, show_line, show_lines};
-ghost use Rattle.sledge_top.specs.Answer.{image_from, image_or_refusal, show_text, show};
+ghost use Rattle.sledge_top.specs.Show.{word_at, shown, show_line, show_lines, show_text, show};
+ghost use Rattle.sledge_top.specs.Files.{image_from, image_or_refusal};
 ghost use Rattle.sledge_top.specs.Endings.{IsLaterFault};
 ghost use Rattle.sledge_top.specs.Views.{done_view, Comes, IsLaterFailure};
 

@@ -2,7 +2,7 @@
 
 ghost use Rattle.std.specs.Prelude.{◌≡◌, ◌≤◌, vec_len, IfOk, IfErr, IfSome, IsErrOf};
 ghost use Rattle.outside.specs.Faults.{Rose};
-ghost use Rattle.sledge_top.specs.Answer.{file_of};
+ghost use Rattle.sledge_top.specs.Files.{file_of};
 ghost use Rattle.sledge_top.specs.Views.{Comes, IsLaterFailure};
 
 use crate::failure::Failure;

@@ -8,9 +8,14 @@ ghost use Rattle.rec_format.specs.Rules.{IsRecordingValue};
 ghost use Rattle.tracer_lang.specs.Script.{tree_of};
 ghost use Rattle.replay.specs.Opening.{opening};
 ghost use Rattle.checkpoints.specs.RecordedRun.{opened_of};
+ghost use Rattle.epoch_run.specs.Images.{image_in, IsImageOf};
+ghost use Rattle.epoch_run.specs.Symbols.{IsOver};
 ghost use Rattle.cli_words.specs.Orders.{FitsTrace};
 ghost use Rattle.cli_words.specs.Views.{words_view, trace_view};
-ghost use Rattle.sledge_top.specs.Answer.{recording_of, image_in, image_of, recorded, recorded_in, refused_by, broken_by, traced, traced_with, replayed_alone, script_of, script_in, trace_by, trace_at, replay, check};
+ghost use Rattle.sledge_top.specs.Files.{refused_by};
+ghost use Rattle.sledge_top.specs.Recordings.{recording_of, image_of, recorded, recorded_in};
+ghost use Rattle.sledge_top.specs.Replays.{broken_by, traced, replayed_alone};
+ghost use Rattle.sledge_top.specs.Traces.{traced_with, script_of, script_in, trace_by, trace_at, replay, check};
 ghost use Rattle.sledge_top.specs.Runs.{run_in};
 ghost use Rattle.sledge_top.specs.Endings.{IsLater, IsLaterFault};
 ghost use Rattle.sledge_top.specs.Views.{done_view, Comes, IsLaterFailure};
@@ -75,6 +80,7 @@ fn image_in(alloc: Global, rec: &Recording) -> Result<Image, Refused<ImageFault>
 pub fn image_of(alloc: Global, rec: &Recording) -> Result<Image, Refused<Refusal>>
     requires { IsRecordingValue rec.now }
     ensures value { Gives (λ image. image) result (image_of rec.now) }
+    ensures spelled { IfOk result (λ image. IsImageOf image rec.now) }
     ensures loadable { IfOk result IsLoadable }
     ensures later { IfErr result IsLaterFault }
 {
@@ -179,7 +185,9 @@ pub fn plan_of(
     epochs: Option<u32>,
 ) -> Result<Plan, Memory>
     requires rules { IsRecordingValue rec }
+    requires spelled { IsImageOf image rec }
     requires image { IsLoadable image }
+    requires over { IsOver image.symbols (tree_of script) }
     requires epochs { IfSome epochs (λ n. (1 ≤ n) × (n ≤ 4096)) }
     ensures recording { IfOk result (λ plan. plan.checkpoints.rec ≡ rec) }
     ensures opened { IfOk result (λ plan. opened_of plan.checkpoints ≡ opening image rec.args) }
@@ -216,7 +224,9 @@ fn traced_from<R: Threads + Sync, G: Gate>(
     gate: &G,
 ) -> Result<Vec<u8>, Refused<Refusal>>
     requires rules { IsRecordingValue rec }
+    requires spelled { IsImageOf image rec }
     requires image { IsLoadable image }
+    requires over { IsOver image.symbols (tree_of script) }
     requires epochs { IfSome epochs (λ n. (1 ≤ n) × (n ≤ 4096)) }
     ensures text { Gives (λ text. text.items) result
         (traced rec (tree_of script) kinds (opening image rec.args)) }
@@ -238,7 +248,9 @@ pub fn traced_with<'a, R: Threads + Sync, G: Gate>(
     gate: &G,
 ) -> Result<Done<'a>, Refused<Refusal>>
     requires rules { IsRecordingValue rec }
+    requires spelled { IsImageOf image rec }
     requires image { IsLoadable image }
+    requires over { IsOver image.symbols (tree_of script) }
     requires options { FitsTrace (trace_view options.now) }
     ensures value { Gives done_view result
         (traced_with rec image (tree_of script) (words_view options.now.analyses.items)) }
@@ -251,7 +263,9 @@ pub fn traced_with<'a, R: Threads + Sync, G: Gate>(
 }
 
 /// A script without tracers.
-pub fn no_tracers(alloc: Global) -> Script {
+pub fn no_tracers(alloc: Global) -> Script
+    ensures { result.tracepoints ≡ [] }
+{
     Script {
         budget: 1,
         functions: Seq::new(alloc),
@@ -268,6 +282,7 @@ fn replayed_from<R: Threads + Sync, G: Gate>(
     gate: &G,
 ) -> Result<Vec<u8>, Refused<Refusal>>
     requires rules { IsRecordingValue rec }
+    requires spelled { IsImageOf image rec }
     requires image { IsLoadable image }
     ensures text { Gives (λ text. text.items) result
         (replayed_alone rec (opening image rec.args)) }
@@ -281,6 +296,7 @@ fn replayed_from<R: Threads + Sync, G: Gate>(
 fn recorded(alloc: Global, bytes: &[u8]) -> Result<(Recording, Image), Refused<Refusal>>
     ensures value { Gives (λ both. both) result (recorded bytes.now) }
     ensures rules { IfOk result (λ both. IsRecordingValue both.0) }
+    ensures spelled { IfOk result (λ both. IsImageOf both.1 both.0) }
     ensures loadable { IfOk result (λ both. IsLoadable both.1) }
     ensures later { IfErr result IsLaterFault }
 {
@@ -298,6 +314,7 @@ pub fn recorded_in<S: Store>(
     ensures value { IfSome (S.told store.old) (λ files.
         Comes (λ both. both) result (recorded_in files name.now)) }
     ensures rules { IfOk result (λ both. IsRecordingValue both.0) }
+    ensures spelled { IfOk result (λ both. IsImageOf both.1 both.0) }
     ensures loadable { IfOk result (λ both. IsLoadable both.1) }
     ensures failed { IsErrOf result Failure.StoreFault
         → Rose (S.faults store.old) (S.faults store.new) }
@@ -312,6 +329,7 @@ pub fn recorded_in<S: Store>(
 /// The script that a text is, with the symbols of an image.
 pub fn script_of(alloc: Global, image: &Image, text: &[u8]) -> Result<Script, Refused<Refusal>>
     ensures value { Gives tree_of result (script_of image.now text.now) }
+    ensures over { IfOk result (λ script. IsOver image.now.symbols (tree_of script)) }
     ensures later { IfErr result IsLaterFault }
 {
     match read_script(alloc, text, image.symbols.as_slice()) {
@@ -330,6 +348,7 @@ fn script_in<S: Store>(
 ) -> Result<Script, Failure>
     ensures value { IfSome (S.told store.old) (λ files.
         Comes tree_of result (script_in files image.now name.now)) }
+    ensures over { IfOk result (λ script. IsOver image.now.symbols (tree_of script)) }
     ensures failed { IsErrOf result Failure.StoreFault
         → Rose (S.faults store.old) (S.faults store.new) }
     ensures later { IfErr result IsLaterFailure }

@@ -4,7 +4,8 @@ use Rattle.sl_base.specs.Refusals.{Fails}
 use Rattle.outside.specs.World.{HearsAll}
 use Rattle.outside.proofs.Hearing.{hears_none}
 use Rattle.cli_words.specs.Views.{record_view}
-use Rattle.sledge_top.specs.Answer.{RecordsProgram, image_or_refusal}
+use Rattle.sledge_top.specs.Files.{image_or_refusal}
+use Rattle.sledge_top.specs.Recording.{RecordsProgram}
 use Rattle.sledge_top.specs.Views.{MaySo}
 use Rattle.sledge_top.proofs.Recorded.{image_refused, image_recorded}
 use Rattle.sledge_top.proofs.recording.record_bytes.Goals as goal

@@ -1,7 +1,8 @@
 use Rattle.std.proofs.Common.{refl}
 use Rattle.outside.specs.World.{HearsAll}
 use Rattle.cli_words.specs.Views.{record_view}
-use Rattle.sledge_top.specs.Answer.{RecordsProgram, put_recording}
+use Rattle.sledge_top.specs.Recordings.{put_recording}
+use Rattle.sledge_top.specs.Recording.{RecordsProgram}
 use Rattle.sledge_top.proofs.Recorded.{due_so}
 use Rattle.sledge_top.proofs.recording.record_program.Goals as goal
 

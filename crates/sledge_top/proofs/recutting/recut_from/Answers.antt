@@ -3,7 +3,9 @@ use Rattle.std.proofs.lemmas.Result.{err_from_is_err_and}
 use Rattle.sl_base.specs.Refusals.{Gives}
 use Rattle.replay.specs.Opening.{opening}
 use Rattle.sledge_top.specs.Views.{done_view}
-use Rattle.sledge_top.specs.Answer.{◌>>=◌, put_recording, recut_by, recut_from}
+use Rattle.sledge_top.specs.Files.{◌>>=◌}
+use Rattle.sledge_top.specs.Recordings.{put_recording}
+use Rattle.sledge_top.specs.Recutting.{recut_by, recut_from}
 use Rattle.sledge_top.proofs.Reports.{fails_on}
 use Rattle.sledge_top.proofs.recutting.recut_from.Goals as goal
 

@@ -9,7 +9,7 @@ use Rattle.checkpoints.specs.RecordedRun.{opened_of}
 use Rattle.analysers.specs.Pieces.{merged_of}
 use Rattle.epoch_run.specs.Records.{records}
 use Rattle.epoch_run.specs.Plans.{tracers_of}
-use Rattle.sledge_top.specs.Answer.{unless_broken}
+use Rattle.sledge_top.specs.Replays.{unless_broken}
 use Rattle.sledge_top.proofs.Reports.{refuses_too}
 use Rattle.sledge_top.proofs.recutting.unbroken.Goals as goal
 

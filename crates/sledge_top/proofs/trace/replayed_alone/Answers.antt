@@ -7,7 +7,7 @@ use Rattle.sl_base.specs.Refusals.{Fails}
 use Rattle.report.specs.declared.run_end.RunEnd.{RunEnd}
 use Rattle.report.specs.RunEnd.{recorded_end}
 use Rattle.report.specs.Report.{analyses_lines, report}
-use Rattle.sledge_top.specs.Answer.{◌>>=◌}
+use Rattle.sledge_top.specs.Files.{◌>>=◌}
 use Rattle.epoch_run.specs.Plans.{tracers_of}
 use Rattle.sledge_top.proofs.Reports.{merged_or_refusal, replayed_alone_is, as_many_rows, fails_on}
 use Rattle.sledge_top.proofs.trace.replayed_alone.Goals as goal

@@ -1,7 +1,7 @@
 use Rattle.std.proofs.Common.{ap, subst, ◌∙◌}
 use Rattle.checkpoints.specs.RecordedRun.{opened_of}
 use Rattle.sl_base.specs.Refusals.{Gives}
-use Rattle.sledge_top.specs.Answer.{replayed_alone}
+use Rattle.sledge_top.specs.Replays.{replayed_alone}
 use Rattle.sledge_top.proofs.trace.replayed_from.Goals as goal
 
 pub returns-clause-text : goal.returns-clause-text

@@ -9,7 +9,7 @@ use Rattle.sl_base.specs.Refusals.{Fails}
 use Rattle.report.specs.declared.run_end.RunEnd.{RunEnd}
 use Rattle.report.specs.RunEnd.{recorded_end}
 use Rattle.report.specs.Report.{analyses_lines, report}
-use Rattle.sledge_top.specs.Answer.{◌>>=◌}
+use Rattle.sledge_top.specs.Files.{◌>>=◌}
 use Rattle.sledge_top.proofs.Reports.{merged_or_refusal, lines_of, traced_is, as_many_rows, fails_on}
 use Rattle.sledge_top.proofs.trace.traced.Goals as goal
 

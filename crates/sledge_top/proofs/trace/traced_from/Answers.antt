@@ -4,7 +4,7 @@ use Rattle.sl_base.specs.Refusals.{Gives}
 use Rattle.analysers.specs.declared.kind.Kind.{Kind}
 use Rattle.tracer_lang.specs.Tree.{ScriptTree}
 use Rattle.tracer_lang.specs.Script.{tree_of}
-use Rattle.sledge_top.specs.Answer.{traced}
+use Rattle.sledge_top.specs.Replays.{traced}
 use Rattle.sledge_top.proofs.trace.traced_from.Goals as goal
 
 pub returns-clause-text : goal.returns-clause-text
