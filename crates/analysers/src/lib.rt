@@ -20,8 +20,6 @@ mod record_words;
 mod row;
 mod stream;
 mod streams;
-#[cfg(test)]
-mod tests;
 mod tree;
 mod trees;
 

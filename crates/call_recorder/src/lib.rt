@@ -13,6 +13,3 @@ mod source;
 pub use record::record_run;
 pub use recutting::recut;
 pub use source::ImageSource;
-
-#[cfg(test)]
-mod tests;

@@ -14,6 +14,3 @@ mod versions;
 
 pub use kept::Checkpoints;
 pub use laws::{comparisons_see_changes, recorded_states_hold_recorded};
-
-#[cfg(test)]
-mod tests;

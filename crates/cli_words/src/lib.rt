@@ -13,6 +13,3 @@ pub use laws::work_stands_apart;
 pub use orders::{Order, RecordOptions, TraceOptions};
 pub use rows::read_words;
 pub use usage::Usage;
-
-#[cfg(test)]
-mod tests;

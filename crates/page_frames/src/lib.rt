@@ -5,8 +5,6 @@ mod frame;
 mod frames;
 mod laws;
 mod table;
-#[cfg(test)]
-mod tests;
 
 pub use frames::Frames;
 pub use laws::walk_gives_each_dirty_page_once;

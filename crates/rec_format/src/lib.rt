@@ -18,6 +18,3 @@ pub use laws::recorded_states_fit;
 pub use reading::{read_recording, spelled_apart};
 pub use recording::{CheckpointData, ListedPage, Recording};
 pub use writing::write_recording;
-
-#[cfg(test)]
-mod tests;

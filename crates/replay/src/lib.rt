@@ -17,6 +17,3 @@ pub use asking::{ask, call_of, is_exit};
 pub use ending::end_break;
 pub use laws::{programs_open, replays_keep_the_layout, replays_lead_to_states};
 pub use loading::load;
-
-#[cfg(test)]
-mod tests;

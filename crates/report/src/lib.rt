@@ -14,6 +14,3 @@ pub use laws::reports_are_tables;
 pub use run_end::{RunEnd, recorded_end};
 pub use status::{Refusal, Status};
 pub use text::{checked_text, recorded_text, report_text};
-
-#[cfg(test)]
-mod tests;

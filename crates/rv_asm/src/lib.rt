@@ -12,8 +12,6 @@ mod place;
 mod sizes;
 mod survey;
 mod table;
-#[cfg(test)]
-mod tests;
 
 pub use asm_text::{AsmCause, AsmFault};
 pub use assembling::assemble;

@@ -6,8 +6,6 @@ mod encoding;
 mod fields;
 mod formats;
 mod operations;
-#[cfg(test)]
-mod tests;
 
 pub use decoding::decode;
 pub use encoding::encode;

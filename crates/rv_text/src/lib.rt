@@ -3,8 +3,6 @@
 
 mod names;
 mod numbers;
-#[cfg(test)]
-mod tests;
 mod text;
 
 pub use text::print_instr;

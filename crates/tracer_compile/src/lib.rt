@@ -7,7 +7,5 @@ mod compiling;
 mod instructions;
 mod roles;
 mod scope;
-#[cfg(test)]
-mod tests;
 
 pub use compiling::compile;

@@ -1,6 +1,7 @@
 //! Scripts that are compiled and run, with the outcome and the number of stores of each worked by
 //! hand. Words and outcome are those that the tracer leaves on a copy, and memory is as before.
 
+mod by_hand;
 mod generated;
 mod in_place;
 mod outcomes;

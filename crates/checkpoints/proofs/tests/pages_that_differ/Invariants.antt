@@ -1,8 +1,0 @@
-use Rattle.checkpoints.specs.Marked.{IsAllDirty}
-use Rattle.checkpoints.proofs.tests.pages_that_differ.Given as goal
-
-abbrev pub invariant-loop-address : goal.invariant-loop-address
-invariant-loop-address g l = IsAllDirty l.state.1
-
-abbrev pub invariant-loop-i : goal.invariant-loop-i
-invariant-loop-i g l = IsAllDirty l.state.1

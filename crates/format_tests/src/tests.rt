@@ -1,0 +1,7 @@
+//! By what is read, written or made of records.
+
+mod analyses;
+mod recordings;
+mod reports;
+mod sources;
+mod words;

@@ -1,4 +1,0 @@
-use Rattle.replay.proofs.tests.break_of.Given as goal
-
-abbrev pub ghosts-break_in : goal.ghosts-break_in
-ghosts-break_in a = record { name = a.blank.name; parts = a.blank.parts }

@@ -1,6 +1,0 @@
-use Rattle.std.specs.List.{AllByRecursion}
-use Rattle.replay.specs.Advance.{IsShort}
-use Rattle.replay.proofs.tests.calls_of.Given as goal
-
-abbrev pub invariant-loop-number : goal.invariant-loop-number
-invariant-loop-number l = AllByRecursion IsShort l.calls
