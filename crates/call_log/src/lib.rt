@@ -8,8 +8,6 @@ mod breaks;
 mod difference;
 mod entry;
 pub mod part;
-#[cfg(test)]
-mod tests;
 
 pub use ask::{Ask, CallDiff};
 pub use breaks::{Break, BreakKind};

@@ -4,8 +4,6 @@
 
 mod board;
 mod plays;
-#[cfg(test)]
-mod tests;
 mod view;
 
 pub use board::{Board, BoardSeat};

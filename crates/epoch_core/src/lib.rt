@@ -8,8 +8,6 @@ mod post;
 mod runs;
 mod schedule;
 mod seat;
-#[cfg(test)]
-mod tests;
 
 pub use event::CoreEvent;
 pub use laws::posts_are_whole;

@@ -4,6 +4,3 @@
 mod cutting;
 
 pub use cutting::{Cutting, cut, from_list};
-
-#[cfg(test)]
-mod tests;

@@ -6,8 +6,6 @@ mod all;
 mod epochs;
 mod jobs;
 mod joining;
-#[cfg(test)]
-mod tests;
 mod worker;
 
 pub use all::run_all;

@@ -1,4 +1,4 @@
-//! Tests alone: the readers and writers of formats, words and reports, and the analyses.
+//! Tests alone: calls, formats, words, tokens of scripts and reports, and the analyses.
 #![tactic(auto)]
 
 #[cfg(test)]

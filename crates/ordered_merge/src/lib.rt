@@ -5,8 +5,6 @@ mod laws;
 mod least;
 mod merging;
 mod ordering;
-#[cfg(test)]
-mod tests;
 
 pub use analysers::{Merged, Row};
 pub use laws::merged_means;

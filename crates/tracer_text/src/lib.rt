@@ -12,6 +12,3 @@ pub use laws::tokens_are_longest_runs;
 pub use node::{Node, Nodes, nodes_of};
 pub use pass::first_pass;
 pub use token::Token;
-
-#[cfg(test)]
-mod tests;
